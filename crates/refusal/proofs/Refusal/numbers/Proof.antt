@@ -1,0 +1,162 @@
+-- `Refusal::numbers` meets its contract: each arm is given that the refusal is its constructor, at the fields that it binds.
+-- Assumes nothing.
+use borrow.Author.Needs.{needs}
+use Rattle.refusal.proofs.Refusal.numbers.Statement.{statement}
+use Rattle.refusal.proofs.Refusal.numbers.Tie as tie
+
+enum-known-self : tie.Need-enum-known-self
+enum-known-self c = search needs
+
+enum-known-self-2 : tie.Need-enum-known-self-2
+enum-known-self-2 c = search needs
+
+enum-known-self-3 : tie.Need-enum-known-self-3
+enum-known-self-3 c = search needs
+
+enum-known-self-4 : tie.Need-enum-known-self-4
+enum-known-self-4 c = search needs
+
+enum-known-self-5 : tie.Need-enum-known-self-5
+enum-known-self-5 c = search needs
+
+cast-t41 : tie.Need-cast-t41
+cast-t41 c = search needs
+
+enum-known-self-6 : tie.Need-enum-known-self-6
+enum-known-self-6 c = search needs
+
+cast-t45 : tie.Need-cast-t45
+cast-t45 c = search needs
+
+enum-known-self-7 : tie.Need-enum-known-self-7
+enum-known-self-7 c = search needs
+
+cast-t47 : tie.Need-cast-t47
+cast-t47 c = search needs
+
+enum-known-self-8 : tie.Need-enum-known-self-8
+enum-known-self-8 c = search needs
+
+cast-t51 : tie.Need-cast-t51
+cast-t51 c = search needs
+
+cast-t52 : tie.Need-cast-t52
+cast-t52 c = search needs
+
+cast-t53 : tie.Need-cast-t53
+cast-t53 c = search needs
+
+cast-t54 : tie.Need-cast-t54
+cast-t54 c = search needs
+
+enum-known-self-9 : tie.Need-enum-known-self-9
+enum-known-self-9 c = search needs
+
+enum-known-self-10 : tie.Need-enum-known-self-10
+enum-known-self-10 c = search needs
+
+cast-t58 : tie.Need-cast-t58
+cast-t58 c = search needs
+
+cast-t59 : tie.Need-cast-t59
+cast-t59 c = search needs
+
+enum-known-self-11 : tie.Need-enum-known-self-11
+enum-known-self-11 c = search needs
+
+cast-t61 : tie.Need-cast-t61
+cast-t61 c = search needs
+
+enum-known-self-12 : tie.Need-enum-known-self-12
+enum-known-self-12 c = search needs
+
+enum-known-self-13 : tie.Need-enum-known-self-13
+enum-known-self-13 c = search needs
+
+enum-known-self-14 : tie.Need-enum-known-self-14
+enum-known-self-14 c = search needs
+
+returns : tie.Need-returns
+returns c = rw (c .before .self .given .1)
+
+returns-2 : tie.Need-returns-2
+returns-2 c = rw (c .before .self2 .given .1)
+
+returns-3 : tie.Need-returns-3
+returns-3 c = rw (c .before .self3 .given .1)
+
+returns-4 : tie.Need-returns-4
+returns-4 c = rw (c .before .self4 .given .1)
+
+returns-5 : tie.Need-returns-5
+returns-5 c = rw (c .before .before .self5 .given .1)
+
+returns-6 : tie.Need-returns-6
+returns-6 c = rw (c .before .before .self6 .given .1)
+
+returns-7 : tie.Need-returns-7
+returns-7 c = rw (c .before .before .self7 .given .1)
+
+returns-8 : tie.Need-returns-8
+returns-8 c = rw (c .before .before .before .before .before .self8 .given .1)
+
+returns-9 : tie.Need-returns-9
+returns-9 c = rw (c .before .self9 .given .1)
+
+returns-10 : tie.Need-returns-10
+returns-10 c = rw (c .before .self10 .given .1)
+
+returns-11 : tie.Need-returns-11
+returns-11 c = rw (c .before .self11 .given .1)
+
+returns-12 : tie.Need-returns-12
+returns-12 c = rw (c .before .self12 .given .1)
+
+returns-13 : tie.Need-returns-13
+returns-13 c = rw (c .before .self13 .given .1)
+
+returns-14 : tie.Need-returns-14
+returns-14 c = rw (c .before .self14 .given .1)
+
+pub numbers-spec : {M : Type 1} → statement M
+numbers-spec =
+    tie.close
+    (tie.spec
+    enum-known-self
+    enum-known-self-2
+    enum-known-self-3
+    enum-known-self-4
+    enum-known-self-5
+    cast-t41
+    enum-known-self-6
+    cast-t45
+    enum-known-self-7
+    cast-t47
+    enum-known-self-8
+    cast-t51
+    cast-t52
+    cast-t53
+    cast-t54
+    enum-known-self-9
+    enum-known-self-10
+    cast-t58
+    cast-t59
+    enum-known-self-11
+    cast-t61
+    enum-known-self-12
+    enum-known-self-13
+    enum-known-self-14
+    returns
+    returns-2
+    returns-3
+    returns-4
+    returns-5
+    returns-6
+    returns-7
+    returns-8
+    returns-9
+    returns-10
+    returns-11
+    returns-12
+    returns-13
+    returns-14)

@@ -1,0 +1,198 @@
+// The refusals of document 01's table, which every answer of the library shares.
+ghost use mathlib.Core.Path.{_≡_};
+ghost use lib.ListN.{getD, length};
+ghost use Rattle.refusal.specs.Table.{number, values};
+ghost use Rattle.refusal.specs.Paper.{refusal, numbersOf};
+
+// The type field of a Neighbor Discovery option (RFC 4861, section 4.6).
+pub struct NdpOptionType(pub u8);
+
+// The length field of an option, in units of eight octets: never a number of bytes.
+pub struct LengthUnits(pub u8);
+
+// The variants stand in the order of the table: the first has number 1, the last 14.
+pub enum Refusal {
+    ShortPacket {
+        least: usize,
+        length: usize,
+    },
+    LongPacket {
+        limit: usize,
+        length: usize,
+    },
+    LongPayload {
+        limit: usize,
+        length: usize,
+    },
+    ShortFixedPart {
+        needed: usize,
+        present: usize,
+    },
+    UnexpectedSize {
+        id: NdpOptionType,
+        expected: usize,
+        actual: usize,
+    },
+    ZeroLength {
+        id: NdpOptionType,
+    },
+    UnexpectedEndOfSlice {
+        id: NdpOptionType,
+        expected: usize,
+        actual: usize,
+    },
+    UnexpectedHeader {
+        expected: NdpOptionType,
+        actual: NdpOptionType,
+        expected_units: LengthUnits,
+        actual_units: LengthUnits,
+    },
+    ShortOutput {
+        needed: usize,
+    },
+    KnownPair {
+        kind: u8,
+        code: u8,
+    },
+    NotReceived {
+        reason: u8,
+    },
+    NoMark {
+        place: u64,
+    },
+    LongRecord {
+        length: usize,
+    },
+    CaptureEnds {
+        place: u64,
+    },
+}
+
+// A refusal as numbers: the table's, how many it carries, and those, with 0 past the last.
+pub struct Numbers {
+    pub number: u8,
+    pub count: usize,
+    pub values: [u64; 4],
+}
+
+impl Refusal {
+    pub fn numbers(self) -> Numbers
+        ensures { λ n. ⌜ n ≡ numbersOf (refusal self) ⌝ }
+    {
+        match self {
+            Refusal::ShortPacket { least, length } => Numbers {
+                number: 1,
+                count: 2,
+                values: [least as u64, length as u64, 0, 0],
+            },
+            Refusal::LongPacket { limit, length } => Numbers {
+                number: 2,
+                count: 2,
+                values: [limit as u64, length as u64, 0, 0],
+            },
+            Refusal::LongPayload { limit, length } => Numbers {
+                number: 3,
+                count: 2,
+                values: [limit as u64, length as u64, 0, 0],
+            },
+            Refusal::ShortFixedPart { needed, present } => Numbers {
+                number: 4,
+                count: 2,
+                values: [needed as u64, present as u64, 0, 0],
+            },
+            Refusal::UnexpectedSize {
+                id,
+                expected,
+                actual,
+            } => Numbers {
+                number: 5,
+                count: 3,
+                values: [id.0 as u64, expected as u64, actual as u64, 0],
+            },
+            Refusal::ZeroLength { id } => Numbers {
+                number: 6,
+                count: 1,
+                values: [id.0 as u64, 0, 0, 0],
+            },
+            Refusal::UnexpectedEndOfSlice {
+                id,
+                expected,
+                actual,
+            } => Numbers {
+                number: 7,
+                count: 3,
+                values: [id.0 as u64, expected as u64, actual as u64, 0],
+            },
+            Refusal::UnexpectedHeader {
+                expected,
+                actual,
+                expected_units,
+                actual_units,
+            } => Numbers {
+                number: 8,
+                count: 4,
+                values: [
+                    expected.0 as u64,
+                    actual.0 as u64,
+                    expected_units.0 as u64,
+                    actual_units.0 as u64,
+                ],
+            },
+            Refusal::ShortOutput { needed } => Numbers {
+                number: 9,
+                count: 1,
+                values: [needed as u64, 0, 0, 0],
+            },
+            Refusal::KnownPair { kind, code } => Numbers {
+                number: 10,
+                count: 2,
+                values: [kind as u64, code as u64, 0, 0],
+            },
+            Refusal::NotReceived { reason } => Numbers {
+                number: 11,
+                count: 1,
+                values: [reason as u64, 0, 0, 0],
+            },
+            Refusal::NoMark { place } => Numbers {
+                number: 12,
+                count: 1,
+                values: [place, 0, 0, 0],
+            },
+            Refusal::LongRecord { length } => Numbers {
+                number: 13,
+                count: 1,
+                values: [length as u64, 0, 0, 0],
+            },
+            Refusal::CaptureEnds { place } => Numbers {
+                number: 14,
+                count: 1,
+                values: [place, 0, 0, 0],
+            },
+        }
+    }
+
+    // The number in the table.
+    pub fn number(self) -> u8
+        ensures { λ n. ⌜ n ≡ number self ⌝ }
+    {
+        let n = self.numbers();
+        n.number
+    }
+
+    // How many numbers it carries.
+    pub fn count(self) -> usize
+        ensures { λ n. ⌜ n ≡ length (values self) ⌝ }
+    {
+        let n = self.numbers();
+        n.count
+    }
+
+    // The i-th number that it carries, from 0, or 0 where it carries no more.
+    pub fn value(self, i: usize) -> u64
+        ensures { λ v. ⌜ v ≡ getD (values self) i 0 ⌝ }
+    {
+        let n = self.numbers();
+        let values = n.values;
+        if i < 4 { values[i] } else { 0 }
+    }
+}
