@@ -1,0 +1,92 @@
+-- A record written from its parts is read back, and a record's bytes are those that its parts make.
+-- Assumes nothing.
+use Prim.Native.Nat.{ℕ, _+_, _-_, _/_, _%_, _<_, _≤_}
+use mathlib.Core.Path.{_≡_, refl, ap, _∙_}
+use mathlib.Core.List.{List, [], _∷_, _++_, append-assoc}
+use native.Mathlib.Omega.{arith}
+use lib.ListN.{length, getD, take, drop, length-append, length-drop}
+use lib.Seq.{take-at, drop-at, getD-at, take-add, take-suc, length-take-le}
+use Rattle.paper.specs.Paper.{Paper, gives}
+use Rattle.capture.specs.Record.{mark, hopLimit, source, destination, packet, packetLen, places, recordBytes, recordOf}
+use Rattle.capture.specs.Capture.{recordLen}
+use Rattle.capture.proofs.Judged.{begins-take, whole}
+use Rattle.capture.proofs.Laws.{Found}
+
+-- the parts, and any bytes after the record
+module _ (hop : ℕ) (src dst p t : List ℕ) (s16 : length src ≡ 16) (d16 : length dst ≡ 16) where
+  -- the head before the length
+  front : List ℕ
+  front = mark ++ (hop ∷ []) ++ src ++ dst
+
+  front-length : length front ≡ 35
+  unfolding front
+  front-length = simp length-append (omega arith)
+
+  grouped : recordBytes hop src dst p ++ t ≡ front ++ (length p / 256 ∷ length p % 256 ∷ (p ++ t))
+  unfolding recordBytes front
+  grouped = simp append-assoc
+
+  get-high : getD (recordBytes hop src dst p ++ t) 35 0 ≡ length p / 256
+  get-high = ap (λ (l : List ℕ). getD l 35 0) grouped ∙ getD-at front (length p / 256) (length p % 256 ∷ (p ++ t)) 0 35 front-length
+
+  -- the head without the low byte of the length, and without the packet
+  grouped-low : recordBytes hop src dst p ++ t ≡ (front ++ (length p / 256 ∷ [])) ++ (length p % 256 ∷ (p ++ t))
+  grouped-low = grouped ∙ simp append-assoc
+
+  grouped-packet : recordBytes hop src dst p ++ t ≡ (front ++ (length p / 256 ∷ length p % 256 ∷ [])) ++ (p ++ t)
+  grouped-packet = grouped ∙ simp append-assoc
+
+  get-low : getD (recordBytes hop src dst p ++ t) 36 0 ≡ length p % 256
+  get-low =
+      ap (λ (l : List ℕ). getD l 36 0) grouped-low
+      ∙ getD-at (front ++ (length p / 256 ∷ [])) (length p % 256) (p ++ t) 0 36 (simp (length-append, front-length))
+
+  pub len-back : packetLen (recordBytes hop src dst p ++ t) ≡ length p
+  len-back = rw (get-high, get-low) (omega arith)
+
+  tail : List ℕ
+  tail = length p / 256 ∷ length p % 256 ∷ (p ++ t)
+
+  grouped-source : recordBytes hop src dst p ++ t ≡ (mark ++ (hop ∷ [])) ++ (src ++ (dst ++ tail))
+  unfolding front tail
+  grouped-source = grouped ∙ append-assoc (mark ++ (hop ∷ []) ++ src) dst tail ∙ append-assoc (mark ++ (hop ∷ [])) src (dst ++ tail)
+
+  pub source-back : source (recordBytes hop src dst p ++ t) ≡ src
+  source-back = ap source grouped-source ∙ take-at src (dst ++ tail) 16 s16
+
+  pub destination-back : destination (recordBytes hop src dst p ++ t) ≡ dst
+  destination-back = ap destination grouped-source ∙ ap (take 16) (drop-at src (dst ++ tail) 16 s16) ∙ take-at dst tail 16 d16
+
+  pub packet-back : packet (recordBytes hop src dst p ++ t) ≡ p
+  packet-back =
+      rw (len-back, grouped-packet)
+      (ap (take (length p)) (drop-at (front ++ (length p / 256 ∷ length p % 256 ∷ [])) (p ++ t) 37 (simp (length-append, front-length))) ∙ take-at p t (length p) refl)
+
+  -- read back at any place: what was written, whatever follows it
+  pub read-back : (at place : ℕ) → length p ≤ 2048 → recordOf (recordBytes hop src dst p ++ t) at place ≡ gives (places hop (length p) at)
+  unfolding recordBytes
+  read-back at place few =
+      let n : length (recordBytes hop src dst p ++ t) ≡ 37 + length p + length t = simp length-append (omega arith) in
+      whole (recordBytes hop src dst p ++ t) at place (omega arith) refl (omega arith) (rw len-back few) (rw len-back (omega arith)) ∙ rw len-back
+
+-- the bytes of a record are made of its parts; the length's low byte is a byte
+pub determined : (s : List ℕ) (at : ℕ) (p : Paper) → Found s at p → getD s 36 0 < 256
+    → take (recordLen s) s ≡ recordBytes (hopLimit s) (source s) (destination s) (packet s)
+unfolding recordBytes
+determined s at p f low =
+    let n : length (packet s) ≡ packetLen s = length-take-le (packetLen s) (drop 37 s) (simp length-drop (omega (arith, f .fits))) in
+    let high : packetLen s / 256 ≡ getD s 35 0 = omega arith in
+    let lower : packetLen s % 256 ≡ getD s 36 0 = omega arith in
+    let enough : 37 ≤ length s = omega (arith, f .fits) in
+    rw (
+      n,
+      high,
+      lower,
+      take-add 37 (packetLen s) s,
+      take-suc s 36 0 (omega arith),
+      take-suc s 35 0 (omega arith),
+      take-add 19 16 s,
+      take-add 3 16 s,
+      take-suc s 2 0 (omega arith),
+      begins-take mark s (f .marked),
+    )

@@ -1,0 +1,78 @@
+-- The seven answers at a place, each from the tests that lead to it, and the mark as a test and as an equation of lists.
+-- Assumes nothing.
+use Prim.Native.Nat.{ℕ, _+_, _-_, _<_, _≤_}
+use mathlib.Core.Path.{_≡_, refl, sym}
+use mathlib.Core.Bool.{Bool, true, false, _&&_}
+use mathlib.Core.List.{List, [], _∷_, _++_}
+use native.Mathlib.Omega.{arith}
+use lib.Dec.{eqb}
+use lib.ListN.{length, take, drop, take-append-drop}
+use borrow.Author.Tests.{eqb-true, eq-eqb, ne-eqb, lt-ltb, le-ltb}
+use Rattle.paper.specs.Paper.{refuses, gives}
+use Rattle.capture.specs.Record.{mark, begins, hopLimit, packetLen, places, recordOf}
+
+both-true : (a b : Bool) → (a && b) ≡ true → (a ≡ true) × (b ≡ true)
+both-true true b e = (refl, e)
+both-true false b e = (e, cc)
+
+pub begins-with : (m t : List ℕ) → begins m (m ++ t) ≡ true
+begins-with [] t = refl
+begins-with (a ∷ m) t = simp (eq-eqb a a refl, begins-with m t)
+
+-- what begins with some bytes has them in front
+pub begins-take : (m s : List ℕ) → begins m s ≡ true → take (length m) s ≡ m
+begins-take [] s e = refl
+begins-take (a ∷ m) [] e = cc
+begins-take (a ∷ m) (b ∷ s) e =
+    let p = both-true (eqb b a) (begins m s) e in
+    rw (eqb-true b a (p .0), begins-take m s (p .1))
+
+pub take-begins : (m s : List ℕ) → take (length m) s ≡ m → begins m s ≡ true
+take-begins m s e = rw (← (take-append-drop (length m) s), e) (begins-with m (drop (length m) s))
+
+-- what a comparison says of the bytes in front, the test says
+pub same-begins : (m s : List ℕ) (t : Bool) → (t ≡ true → take (length m) s ≡ m) → (take (length m) s ≡ m → t ≡ true) → begins m s ≡ t
+same-begins m s true p q = take-begins m s (p refl)
+same-begins m s false p q = by (begins m s) refl
+  where
+    by : (b : Bool) → begins m s ≡ b → b ≡ false
+    by true e = sym (q (begins-take m s e))
+    by false e = refl
+
+-- s from the record's first byte on
+module _ (s : List ℕ) (at place : ℕ) where
+  pub none-left : length s ≡ 0 → recordOf s at place ≡ gives []
+  unfolding recordOf
+  none-left h = simp (eq-eqb (length s) 0 h)
+
+  module _ (some : 1 ≤ length s) where
+    pub one-left : length s < 2 → recordOf s at place ≡ refuses 14 (place ∷ [])
+    unfolding recordOf
+    one-left h = simp (ne-eqb (length s) 0 (λ e. omega arith), lt-ltb _ _ h)
+
+  module _ (two : 2 ≤ length s) where
+    not-none : eqb (length s) 0 ≡ false
+    not-none = ne-eqb (length s) 0 (λ e. omega arith)
+
+    pub not-marked : begins mark s ≡ false → recordOf s at place ≡ refuses 12 (place ∷ [])
+    unfolding recordOf
+    not-marked m = simp (not-none, le-ltb _ _ two, m)
+
+    module _ (m : begins mark s ≡ true) where
+      pub head-cut : length s < 37 → recordOf s at place ≡ refuses 14 (place ∷ [])
+      unfolding recordOf
+      head-cut h = simp (not-none, le-ltb _ _ two, m, lt-ltb _ _ h)
+
+      module _ (head : 37 ≤ length s) where
+        pub too-long : 2048 < packetLen s → recordOf s at place ≡ refuses 13 (packetLen s ∷ [])
+        unfolding recordOf
+        too-long h = simp (not-none, le-ltb _ _ two, m, le-ltb _ _ head, lt-ltb _ _ h)
+
+        module _ (few : packetLen s ≤ 2048) where
+          pub body-cut : length s - 37 < packetLen s → recordOf s at place ≡ refuses 14 (place ∷ [])
+          unfolding recordOf
+          body-cut h = simp (not-none, le-ltb _ _ two, m, le-ltb _ _ head, le-ltb _ _ few, lt-ltb _ _ h)
+
+          pub whole : packetLen s ≤ length s - 37 → recordOf s at place ≡ gives (places (hopLimit s) (packetLen s) at)
+          unfolding recordOf
+          whole h = simp (not-none, le-ltb _ _ two, m, le-ltb _ _ head, le-ltb _ _ few, le-ltb _ _ h)

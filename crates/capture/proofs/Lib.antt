@@ -1,0 +1,8 @@
+pub mod Judged
+pub mod Writing
+pub mod Paper
+pub mod Unique
+pub mod Seen
+pub mod Laws
+pub mod Whole
+pub mod Back

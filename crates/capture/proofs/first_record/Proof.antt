@@ -1,0 +1,145 @@
+-- `capture::first_record` meets its contract: the tests on the way to each `return` are those of its case.
+-- Assumes nothing.
+use denote.Ref.{now}
+use Prim.Native.Nat.{_≤_}
+use native.Mathlib.Omega.{arith}
+use mathlib.Core.Bool.{true}
+use mathlib.Core.Path.{_≡_, sym, _∙_}
+use lib.Seq.{length-take-le}
+use lib.ListN.{length}
+use borrow.Author.Tests.{not-true, not-false}
+use Rattle.capture.specs.Record.{mark, begins}
+use Rattle.capture.proofs.Judged.{same-begins, none-left, one-left, not-marked, head-cut, too-long, body-cut, whole}
+use borrow.Author.Needs.{needs}
+use Rattle.capture.proofs.first_record.Statement.{statement}
+use Rattle.capture.proofs.first_record.Tie as tie
+
+returns : tie.Need-returns
+returns c =
+    let a = c .before .before .args in
+    sym (none-left (now (a .left)) (a .at) (a .place) (c .if1 .taken))
+
+returns-2 : tie.Need-returns-2
+returns-2 c =
+    let a = c .before .before .before .args in
+    sym (one-left (now (a .left)) (a .at) (a .place) (omega arith) (c .if2 .taken))
+
+slice-aggregate-same : tie.Need-slice-aggregate-same
+slice-aggregate-same c = sym (length-take-le _ (now (c .before .before .before .before .args .left)) (omega arith))
+
+slice-aggregate-same-2 : tie.Need-slice-aggregate-same-2
+slice-aggregate-same-2 c = search needs
+
+same-requires : tie.Need-same-requires
+same-requires c κs = search needs
+
+-- the comparison is the test of the mark
+abbrev Marks : tie.After-same → Type 0
+Marks c = begins mark (now (c .before .before .before .before .before .before .args .left)) ≡ c .same .result
+
+marks : (c : tie.After-same) → Marks c
+marks c = same-begins mark (now (c .before .before .before .before .before .before .args .left)) _ (c .same .ensures .0) (c .same .ensures .1)
+
+-- two bytes at least, and the mark
+abbrev Good : tie.Else3 → Type 0
+Good c =
+    let s = now (c .before .before .before .before .before .before .before .args .left) in
+    (2 ≤ length s) × (begins mark s ≡ true)
+
+good : (c : tie.Else3) → Good c
+good c = (c .before .before .before .before .if2 .left, marks (c .before) ∙ not-false _ (c .if3 .left))
+
+returns-3 : tie.Need-returns-3
+returns-3 c =
+    let w = c .before in
+    let b = w .before .before .before in
+    let a = b .before .before .before .args in
+    sym (not-marked (now (a .left)) (a .at) (a .place) (b .if2 .left) (marks w ∙ not-true _ (c .if3 .taken)))
+
+returns-4 : tie.Need-returns-4
+returns-4 c =
+    let g = c .before in
+    let a = g .before .before .before .before .before .before .before .args in
+    sym (head-cut (now (a .left)) (a .at) (a .place) (good g .0) (good g .1) (c .if4 .taken))
+
+shared-slice-read-word : tie.Need-shared-slice-read-word
+shared-slice-read-word c = search needs
+
+shared-slice-read-word-2 : tie.Need-shared-slice-read-word-2
+shared-slice-read-word-2 c = search needs
+
+word-requires : tie.Need-word-requires
+word-requires c κs = search needs
+
+returns-5 : tie.Need-returns-5
+returns-5 c =
+    let w = c .before in
+    let h = w .before .before .before in
+    let g = h .before in
+    let a = g .before .before .before .before .before .before .before .args in
+    rw (w .word .ensures) (sym (too-long (now (a .left)) (a .at) (a .place) (good g .0) (good g .1) (h .if4 .left) (rw (w .word .ensures) at (c .if5 .taken))))
+
+sub-if6 : tie.Need-sub-if6
+sub-if6 c = search needs
+
+returns-6 : tie.Need-returns-6
+returns-6 c =
+    let i = c .before in
+    let w = i .before in
+    let h = w .before .before .before in
+    let g = h .before in
+    let a = g .before .before .before .before .before .before .before .args in
+    sym (body-cut (now (a .left)) (a .at) (a .place) (good g .0) (good g .1) (h .if4 .left) (rw (w .word .ensures) at (i .if5 .left)) (rw (w .word .ensures) at (c .if6 .taken)))
+
+shared-slice-read-t19 : tie.Need-shared-slice-read-t19
+shared-slice-read-t19 c = search needs
+
+add-t6 : tie.Need-add-t6
+add-t6 c = search needs
+
+add-t21 : tie.Need-add-t21
+add-t21 c = search needs
+
+add-t24 : tie.Need-add-t24
+add-t24 c = search needs
+
+add-t25 : tie.Need-add-t25
+add-t25 c = search needs
+
+add-t26 : tie.Need-add-t26
+add-t26 c = search needs
+
+returns-7 : tie.Need-returns-7
+returns-7 c =
+    let k = c .before in
+    let i = k .before in
+    let w = i .before in
+    let h = w .before .before .before in
+    let g = h .before in
+    let a = g .before .before .before .before .before .before .before .args in
+    rw (w .word .ensures) (sym (whole (now (a .left)) (a .at) (a .place) (good g .0) (good g .1) (h .if4 .left) (rw (w .word .ensures) at (i .if5 .left)) (rw (w .word .ensures) at (k .if6 .left))))
+
+pub first-record-spec : {M : Type 1} → statement M
+first-record-spec =
+    tie.close
+    (tie.spec
+    returns
+    returns-2
+    slice-aggregate-same
+    slice-aggregate-same-2
+    same-requires
+    returns-3
+    returns-4
+    shared-slice-read-word
+    shared-slice-read-word-2
+    word-requires
+    returns-5
+    sub-if6
+    returns-6
+    shared-slice-read-t19
+    add-t6
+    add-t21
+    add-t24
+    add-t25
+    add-t26
+    returns-7)

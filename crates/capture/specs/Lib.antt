@@ -1,0 +1,3 @@
+pub mod Record
+pub mod Paper
+pub mod Capture

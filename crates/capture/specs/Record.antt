@@ -1,0 +1,74 @@
+-- Document 01, "The dump and its records": mark 49 36, hop limit, source 16, destination 16, length 2 high byte first, packet.
+-- Assumes nothing.
+use Prim.Native.Nat.{ℕ, _+_, _-_, _*_, _/_, _%_, _^_}
+use mathlib.Core.Bool.{Bool, true, false, cond, not, _&&_}
+use mathlib.Core.List.{List, [], _∷_, _++_}
+use lib.Dec.{ltb, eqb}
+use lib.ListN.{length, getD, take, drop}
+use Rattle.paper.specs.Paper.{Paper, refuses, gives}
+
+-- "I6" in ASCII
+abbrev pub mark : List ℕ
+mark = 73 ∷ 54 ∷ []
+
+abbrev pub begins : List ℕ → List ℕ → Bool
+begins [] s = true
+begins (m ∷ ms) [] = false
+begins (m ∷ ms) (b ∷ s) = eqb b m && begins ms s
+
+-- the parts of a record that begins with the first byte of s
+abbrev pub hopLimit : List ℕ → ℕ
+hopLimit s = getD s 2 0
+
+abbrev pub source : List ℕ → List ℕ
+source s = take 16 (drop 3 s)
+
+abbrev pub destination : List ℕ → List ℕ
+destination s = take 16 (drop 19 s)
+
+abbrev pub packetLen : List ℕ → ℕ
+packetLen s = 256 * getD s 35 0 + getD s 36 0
+
+abbrev pub packet : List ℕ → List ℕ
+packet s = take (packetLen s) (drop 37 s)
+
+-- a record from its parts
+unfoldable pub recordBytes : ℕ → List ℕ → List ℕ → List ℕ → List ℕ
+recordBytes hop src dst p = mark ++ (hop ∷ []) ++ src ++ dst ++ (length p / 256 ∷ []) ++ (length p % 256 ∷ []) ++ p
+
+-- what is told of a record at a place: hop limit, the places of source, destination and packet, the packet's length, the next place
+abbrev pub places : ℕ → ℕ → ℕ → List ℕ
+places hop len at = hop ∷ (at + 3) ∷ (at + 19) ∷ (at + 37) ∷ len ∷ (at + 37 + len) ∷ []
+
+-- What stands at a place, s being the bytes from there to the end of the capture. In document 01's order: mark (12; 14 if under
+-- 2 bytes remain), 37-byte head (14), length (13), body (14). Where no byte remains the capture ends.
+unfoldable pub recordOf : List ℕ → ℕ → ℕ → Paper
+recordOf s at place =
+    cond (eqb (length s) 0) (gives [])
+    (cond (ltb (length s) 2) (refuses 14 (place ∷ []))
+    (cond (not (begins mark s)) (refuses 12 (place ∷ []))
+    (cond (ltb (length s) 37) (refuses 14 (place ∷ []))
+    (cond (ltb 2048 (packetLen s)) (refuses 13 (packetLen s ∷ []))
+    (cond (ltb (length s - 37) (packetLen s)) (refuses 14 (place ∷ []))
+    (gives (places (hopLimit s) (packetLen s) at)))))))
+
+-- a place of some bytes, counted from the start of the capture, in 64 bits
+abbrev pub placeIn : ℕ → ℕ → ℕ
+placeIn base at = (base + at) % 2 ^ 64
+
+-- the record at a place of some bytes; a place beyond them is refused 14
+unfoldable pub nextOf : List ℕ → ℕ → ℕ → Paper
+nextOf s at base =
+    cond (ltb (length s) at) (refuses 14 (placeIn base at ∷ []))
+    (recordOf (drop at s) at (placeIn base at))
+
+-- the writer: 13, then 9; else the record's length
+unfoldable pub writeOf : List ℕ → List ℕ → Paper
+writeOf p out =
+    cond (ltb 2048 (length p)) (refuses 13 (length p ∷ []))
+    (cond (ltb (length out) (37 + length p)) (refuses 9 ((37 + length p) ∷ []))
+    (gives ((37 + length p) ∷ [])))
+
+-- the buffer afterwards: as it was where the answer refuses, else the bytes over its start
+abbrev pub leaves : Paper → List ℕ → List ℕ → List ℕ
+leaves answer bytes out = cond (eqb (answer .number) 0) (bytes ++ drop (getD (answer .values) 0 0) out) out

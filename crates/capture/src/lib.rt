@@ -1,0 +1,147 @@
+// One record of a capture, read and written (document 01, "The dump and its records").
+ghost use mathlib.Core.Path.{_≡_};
+ghost use mathlib.Core.List.{[], _∷_};
+ghost use Prim.Native.Nat.{_+_, _*_, _≤_, _<_};
+ghost use lib.ListN.{length, take, drop};
+ghost use Rattle.lent.specs.Wrote.{Wrote};
+ghost use Rattle.capture.specs.Record.{recordBytes, recordOf, nextOf, writeOf, leaves};
+ghost use Rattle.capture.specs.Paper.{nextPaper, writtenPaper};
+use refusal::Refusal;
+
+// The bytes before the packet: the mark, a hop limit, two addresses and the packet's length.
+pub const HEAD_LEN: usize = 37;
+
+pub const MAX_PACKET_LEN: usize = 2048;
+
+// Where the parts of a record stand in the capture; `next` is the place after its last byte.
+pub struct Record {
+    pub hop_limit: u8,
+    pub source: usize,
+    pub destination: usize,
+    pub packet: usize,
+    pub len: usize,
+    pub next: usize,
+}
+
+pub enum Next {
+    Found(Record),
+    End,
+    Refused(Refusal),
+}
+
+pub enum Written {
+    Bytes(usize),
+    Refused(Refusal),
+}
+
+// The record at a place of `capture`, whose own first byte is `base` bytes from the start of the whole capture.
+// A place beyond the bytes is refused like a record that is cut off; it is no end.
+pub fn next_record(capture: &[u8], at: usize, base: u64) -> Next
+    ensures { λ r. ⌜ nextPaper r ≡ nextOf (now (capture .entry)) at base ⌝ }
+{
+    let place = std::num::wrapping_add_u64(base, at as u64);
+    if capture.len() < at {
+        return Next::Refused(Refusal::CaptureEnds { place });
+    }
+    first_record(&capture[at..], at, place)
+}
+
+// The record that `left` begins with.
+fn first_record(left: &[u8], at: usize, place: u64) -> Next
+    requires { ⌜ at + length (now left) < 18446744073709551616 ⌝ }
+    ensures { λ r. ⌜ nextPaper r ≡ recordOf (now (left .entry)) at place ⌝ }
+{
+    if left.len() == 0 {
+        return Next::End;
+    }
+    if left.len() < 2 {
+        return Next::Refused(Refusal::CaptureEnds { place });
+    }
+    if !check::same(&left[..2], b"I6") {
+        return Next::Refused(Refusal::NoMark { place });
+    }
+    if left.len() < HEAD_LEN {
+        return Next::Refused(Refusal::CaptureEnds { place });
+    }
+    let len = word(left[35], left[36]);
+    if MAX_PACKET_LEN < len {
+        return Next::Refused(Refusal::LongRecord { length: len });
+    }
+    if left.len() - HEAD_LEN < len {
+        return Next::Refused(Refusal::CaptureEnds { place });
+    }
+    Next::Found(Record {
+        hop_limit: left[2],
+        source: at + 3,
+        destination: at + 19,
+        packet: at + HEAD_LEN,
+        len,
+        next: at + HEAD_LEN + len,
+    })
+}
+
+// Two bytes, the high one first.
+fn word(high: u8, low: u8) -> usize
+    ensures { λ r. ⌜ r ≡ 256 * high + low ⌝ }
+{
+    256 * high as usize + low as usize
+}
+
+// The bytes from a place on, `len` of them or as many as there are: how an address or the packet of a record is reached.
+pub fn part<'a>(capture: &'a [u8], at: usize, len: usize) -> &'a [u8]
+    ensures { λ r. ⌜ now r ≡ take len (drop at (now (capture .entry))) ⌝ }
+{
+    if capture.len() <= at {
+        return &capture[..0];
+    }
+    if capture.len() - at < len {
+        return &capture[at..];
+    }
+    let end = at + len;
+    &capture[at..end]
+}
+
+// Writes a record from its parts at the start of `out`, and nothing where it refuses.
+pub fn write_record(
+    hop_limit: u8,
+    source: &[u8; 16],
+    destination: &[u8; 16],
+    packet: &[u8],
+    out: &mut [u8],
+) -> Written
+    ensures answers { λ r. ⌜ writtenPaper r ≡ writeOf (now (packet .entry)) (now (out .entry)) ⌝ }
+    ensures lent { λ r. ⌜ now (out .exit) ≡ leaves (writeOf (now (packet .entry)) (now (out .entry))) (recordBytes «hop_limit» (now (source .entry)) (now (destination .entry)) (now (packet .entry))) (now (out .entry)) ⌝ }
+{
+    let len = packet.len();
+    if MAX_PACKET_LEN < len {
+        return Written::Refused(Refusal::LongRecord { length: len });
+    }
+    let total = HEAD_LEN + len;
+    if out.len() < total {
+        return Written::Refused(Refusal::ShortOutput { needed: total });
+    }
+    let a = put_bytes(out, 0, b"I6");
+    let b = put_byte(out, a, hop_limit);
+    let c = put_bytes(out, b, source);
+    let d = put_bytes(out, c, destination);
+    let e = put_byte(out, d, (len / 256) as u8);
+    let f = put_byte(out, e, (len % 256) as u8);
+    put_bytes(out, f, packet);
+    Written::Bytes(total)
+}
+
+fn put_byte(out: &mut [u8], at: usize, byte: u8) -> usize
+    requires { ⌜ at < length (now out) ⌝ }
+    ensures { λ r. ⌜ Wrote (now (out .entry)) at (byte ∷ []) (now (out .exit)) r ⌝ }
+{
+    out[at] = byte;
+    at + 1
+}
+
+fn put_bytes(out: &mut [u8], at: usize, bytes: &[u8]) -> usize
+    requires { ⌜ at + length (now bytes) ≤ length (now out) ⌝ }
+    ensures { λ r. ⌜ Wrote (now (out .entry)) at (now (bytes .entry)) (now (out .exit)) r ⌝ }
+{
+    let n = bytes::copy(bytes, &mut out[at..]);
+    at + n
+}
