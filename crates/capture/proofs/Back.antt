@@ -90,3 +90,5 @@ determined s at p f low =
       take-suc s 2 0 (omega arith),
       begins-take mark s (f .marked),
     )
+    (ap (λ (l : List ℕ). l ++ take (packetLen s) (drop 37 s))
+    (append-assoc (mark ++ (getD s 2 0 ∷ []) ++ take 16 (drop 3 s) ++ take 16 (drop 19 s)) (getD s 35 0 ∷ []) (getD s 36 0 ∷ [])))

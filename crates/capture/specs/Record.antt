@@ -34,7 +34,7 @@ packet s = take (packetLen s) (drop 37 s)
 
 -- a record from its parts
 unfoldable pub recordBytes : ℕ → List ℕ → List ℕ → List ℕ → List ℕ
-recordBytes hop src dst p = mark ++ (hop ∷ []) ++ src ++ dst ++ (length p / 256 ∷ []) ++ (length p % 256 ∷ []) ++ p
+recordBytes hop src dst p = mark ++ (hop ∷ []) ++ src ++ dst ++ (length p / 256 ∷ length p % 256 ∷ []) ++ p
 
 -- what is told of a record at a place: hop limit, the places of source, destination and packet, the packet's length, the next place
 abbrev pub places : ℕ → ℕ → ℕ → List ℕ

@@ -1,6 +1,5 @@
 // One record of a capture, read and written (document 01, "The dump and its records").
 ghost use mathlib.Core.Path.{_≡_};
-ghost use mathlib.Core.List.{[], _∷_};
 ghost use Prim.Native.Nat.{_+_, _*_, _≤_, _<_};
 ghost use lib.ListN.{length, take, drop};
 ghost use Rattle.lent.specs.Wrote.{Wrote};
@@ -121,23 +120,15 @@ pub fn write_record(
         return Written::Refused(Refusal::ShortOutput { needed: total });
     }
     let a = put_bytes(out, 0, b"I6");
-    let b = put_byte(out, a, hop_limit);
+    let b = put_bytes(out, a, &[hop_limit]);
     let c = put_bytes(out, b, source);
     let d = put_bytes(out, c, destination);
-    let e = put_byte(out, d, (len / 256) as u8);
-    let f = put_byte(out, e, (len % 256) as u8);
-    put_bytes(out, f, packet);
+    let e = put_bytes(out, d, &[(len / 256) as u8, (len % 256) as u8]);
+    put_bytes(out, e, packet);
     Written::Bytes(total)
 }
 
-fn put_byte(out: &mut [u8], at: usize, byte: u8) -> usize
-    requires { ⌜ at < length (now out) ⌝ }
-    ensures { λ r. ⌜ Wrote (now (out .entry)) at (byte ∷ []) (now (out .exit)) r ⌝ }
-{
-    out[at] = byte;
-    at + 1
-}
-
+// The bytes, over those from a place on; answers the place after them.
 fn put_bytes(out: &mut [u8], at: usize, bytes: &[u8]) -> usize
     requires { ⌜ at + length (now bytes) ≤ length (now out) ⌝ }
     ensures { λ r. ⌜ Wrote (now (out .entry)) at (now (bytes .entry)) (now (out .exit)) r ⌝ }

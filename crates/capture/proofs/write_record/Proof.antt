@@ -1,7 +1,7 @@
 -- `capture::write_record` meets its contract: a refusal comes before the first store, and the parts are put one after the other.
 -- Assumes nothing.
-use denote.Ref.{now}
 use native.Mathlib.Omega.{arith}
+use denote.Ref.{now}
 use mathlib.Core.Path.{sym}
 use Rattle.lent.proofs.Wrote.{_then_}
 use Rattle.capture.proofs.Writing.{long, narrow, written}
@@ -31,8 +31,8 @@ slice-aggregate-put-bytes c = search needs
 put-bytes-requires : tie.Need-put-bytes-requires
 put-bytes-requires c κs = search needs
 
-put-byte-requires : tie.Need-put-byte-requires
-put-byte-requires c κs = search needs
+slice-aggregate-put-bytes-2 : tie.Need-slice-aggregate-put-bytes-2
+slice-aggregate-put-bytes-2 c = search needs
 
 put-bytes-requires-2 : tie.Need-put-bytes-requires-2
 put-bytes-requires-2 c κs = search needs
@@ -40,20 +40,23 @@ put-bytes-requires-2 c κs = search needs
 put-bytes-requires-3 : tie.Need-put-bytes-requires-3
 put-bytes-requires-3 c κs = search needs
 
-cast-put-byte : tie.Need-cast-put-byte
-cast-put-byte c = search needs
-
-put-byte-requires-2 : tie.Need-put-byte-requires-2
-put-byte-requires-2 c κs = search needs
-
-cast-put-byte-2 : tie.Need-cast-put-byte-2
-cast-put-byte-2 c = search needs
-
-put-byte-requires-3 : tie.Need-put-byte-requires-3
-put-byte-requires-3 c κs = search needs
-
 put-bytes-requires-4 : tie.Need-put-bytes-requires-4
 put-bytes-requires-4 c κs = search needs
+
+cast-t38 : tie.Need-cast-t38
+cast-t38 c = search needs
+
+cast-t40 : tie.Need-cast-t40
+cast-t40 c = search needs
+
+slice-aggregate-put-bytes-3 : tie.Need-slice-aggregate-put-bytes-3
+slice-aggregate-put-bytes-3 c = search needs
+
+put-bytes-requires-5 : tie.Need-put-bytes-requires-5
+put-bytes-requires-5 c κs = search needs
+
+put-bytes-requires-6 : tie.Need-put-bytes-requires-6
+put-bytes-requires-6 c κs = search needs
 
 same-length : tie.Need-same-length
 same-length c = search needs
@@ -61,19 +64,15 @@ same-length c = search needs
 returns-3 : tie.Need-returns-3
 unfolding recordBytes
 returns-3 c =
-    let g = c .before .before in
-    let f = g .before .before .before .before in
-    let e = f .before .before .before .before in
-    let d = e .before .before .before .before in
-    let b = d .before .before .before .before .before in
-    let h = b .before .before .before .before .before in
-    let m = h .before .before .before .before in
+    let p = c .before .before in
+    let l = p .before .before .before .before in
+    let d = l .before .before .before .before .before in
+    let s = d .before .before .before .before .before in
+    let h = s .before .before .before .before .before in
+    let m = h .before .before .before .before .before in
     let i = m .before .before .before in
-    let a = i .before .before .before .before in
-    written (a .args .hop-limit) (now (a .args .source)) (now (a .args .destination)) (now (a .args .packet)) (now (a .args .out))
-    (omega (arith, b .before .put-bytes-arg4 .given)) (omega (arith, d .before .put-bytes-arg6 .given)) (i .before .if1 .left) (i .if2 .left) _ _
-    (m .put-bytes .ensures then h .put-byte .ensures then b .put-bytes2 .ensures then d .put-bytes3 .ensures
-    then e .put-byte2 .ensures then f .put-byte3 .ensures then g .put-bytes4 .ensures)
+    let a = i .before .before .before .before .args in
+    written (a .hop-limit) (now (a .source)) (now (a .destination)) (now (a .packet)) (now (a .out)) (omega (arith, s .before .put-bytes-arg6 .given)) (omega (arith, d .before .put-bytes-arg8 .given)) (i .before .if1 .left) (i .if2 .left) _ _ (m .put-bytes .ensures then h .put-bytes2 .ensures then s .put-bytes3 .ensures then d .put-bytes4 .ensures then l .put-bytes5 .ensures then p .put-bytes6 .ensures)
 
 pub write-record-spec : {M : Type 1} → statement M
 write-record-spec =
@@ -84,13 +83,14 @@ write-record-spec =
     returns-2
     slice-aggregate-put-bytes
     put-bytes-requires
-    put-byte-requires
+    slice-aggregate-put-bytes-2
     put-bytes-requires-2
     put-bytes-requires-3
-    cast-put-byte
-    put-byte-requires-2
-    cast-put-byte-2
-    put-byte-requires-3
     put-bytes-requires-4
+    cast-t38
+    cast-t40
+    slice-aggregate-put-bytes-3
+    put-bytes-requires-5
+    put-bytes-requires-6
     same-length
     returns-3)
