@@ -1,0 +1,272 @@
+// The lines of the dump, written into a lent buffer (document 01, "The dump and its records").
+ghost use mathlib.Core.Path.{_≡_};
+ghost use mathlib.Core.List.{[], _∷_, _++_};
+ghost use Prim.Native.Nat.{_+_, _-_, _≤_, _<_};
+ghost use lib.ListN.{length};
+ghost use Rattle.lent.specs.Wrote.{Wrote};
+ghost use Rattle.lines.specs.Digits.{decimal, hex4, glyph as Digits·glyph};
+ghost use Rattle.lines.specs.Text.{field, newline};
+ghost use Rattle.lines.specs.Line.{wordOf, verdictOf, text, putOf, leaves, paper};
+use refusal::Refusal;
+
+// The words for the message types.
+pub enum Word {
+    Unreach,
+    TooBig,
+    Exceeded,
+    Param,
+    EchoReq,
+    EchoRep,
+    Rs,
+    Ra,
+    Ns,
+    Na,
+    Redirect,
+    Unknown,
+}
+
+// The lines, in the order in which a listing has them.
+pub enum Line {
+    Title,
+    Record {
+        number: u64,
+        place: u64,
+    },
+    Head {
+        word: Word,
+        code: u8,
+        sum: u16,
+        ok: bool,
+        len: u64,
+        recv: u8,
+    },
+    Opt {
+        place: u64,
+        kind: u8,
+        bytes: u64,
+    },
+    End {
+        number: u64,
+    },
+    RefusedAt {
+        number: u8,
+        place: u64,
+    },
+    Refused {
+        number: u8,
+    },
+    Records {
+        number: u64,
+    },
+    Stopped {
+        number: u8,
+        place: u64,
+    },
+}
+
+// No line has more bytes.
+pub const LONGEST: usize = 128;
+
+// The place after the line, or refusal 9 with the bytes that the line needs.
+pub enum Put {
+    To(usize),
+    Refused(Refusal),
+}
+
+// Puts a line over the bytes from a place on, or nothing where it does not fit whole.
+pub fn put_line(out: &mut [u8], at: usize, line: Line) -> Put
+    ensures answers { λ r. ⌜ paper r ≡ putOf (now (out .entry)) at (text line) ⌝ }
+    ensures lent { λ r. ⌜ now (out .exit) ≡ leaves (putOf (now (out .entry)) at (text line)) (now (out .entry)) at (text line) ⌝ }
+{
+    let room = left_after(out, at);
+    if LONGEST <= room {
+        return Put::To(put_text(out, at, line));
+    }
+    let mut own = [0u8; 128];
+    let n = put_text(&mut own, 0, line);
+    if room < n {
+        return Put::Refused(Refusal::ShortOutput { needed: n });
+    }
+    Put::To(put_bytes(out, at, &own[..n]))
+}
+
+fn left_after(out: &[u8], at: usize) -> usize
+    ensures { λ r. ⌜ r ≡ length (now (out .entry)) - at ⌝ }
+{
+    if at < out.len() { out.len() - at } else { 0 }
+}
+
+// Each of the following puts its text over the bytes from a place on, and answers the place after it.
+fn put_text(out: &mut [u8], at: usize, line: Line) -> usize
+    requires { ⌜ at + 128 ≤ length (now out) ⌝ }
+    ensures wrote { λ r. ⌜ Wrote (now (out .entry)) at (text line) (now (out .exit)) r ⌝ }
+    ensures short { λ r. ⌜ r ≤ at + 128 ⌝ }
+{
+    match line {
+        Line::Title => put_bytes(out, at, b"icmp6 1\n"),
+        Line::Record { number, place } => put_two(out, at, b"record ", number, b" at ", place),
+        Line::Head {
+            word,
+            code,
+            sum,
+            ok,
+            len,
+            recv,
+        } => put_head(out, at, word, code, sum, ok, len, recv),
+        Line::Opt { place, kind, bytes } => {
+            let a = put_field(out, at, b"opt ", place);
+            put_two(out, a, b" type ", kind as u64, b" bytes ", bytes)
+        }
+        Line::End { number } => put_one(out, at, b"end ", number),
+        Line::RefusedAt { number, place } => put_two(
+            out,
+            at,
+            b"refused ",
+            number as u64,
+            b" at ",
+            place,
+        ),
+        Line::Refused { number } => put_one(out, at, b"refused ", number as u64),
+        Line::Records { number } => put_one(out, at, b"records ", number),
+        Line::Stopped { number, place } => put_two(
+            out,
+            at,
+            b"stopped ",
+            number as u64,
+            b" at ",
+            place,
+        ),
+    }
+}
+
+// As `rs code 0 sum 7a2c ok len 16 recv 0`.
+fn put_head(
+    out: &mut [u8],
+    at: usize,
+    word: Word,
+    code: u8,
+    sum: u16,
+    ok: bool,
+    len: u64,
+    recv: u8,
+) -> usize
+    requires { ⌜ at + 128 ≤ length (now out) ⌝ }
+    ensures wrote { λ r. ⌜ Wrote (now (out .entry)) at (text (Line.Head word code sum ok len recv)) (now (out .exit)) r ⌝ }
+    ensures short { λ r. ⌜ r ≤ at + 128 ⌝ }
+{
+    let a = put_word(out, at, word);
+    let b = put_field(out, a, b" code ", code as u64);
+    let c = put_bytes(out, b, b" sum ");
+    let d = put_hex4(out, c, sum);
+    let e = put_verdict(out, d, ok);
+    let f = put_field(out, e, b" len ", len);
+    put_one(out, f, b" recv ", recv as u64)
+}
+
+fn put_word(out: &mut [u8], at: usize, word: Word) -> usize
+    requires { ⌜ at + 8 ≤ length (now out) ⌝ }
+    ensures wrote { λ r. ⌜ Wrote (now (out .entry)) at (wordOf word) (now (out .exit)) r ⌝ }
+    ensures short { λ r. ⌜ r ≤ at + 8 ⌝ }
+{
+    match word {
+        Word::Unreach => put_bytes(out, at, b"unreach"),
+        Word::TooBig => put_bytes(out, at, b"toobig"),
+        Word::Exceeded => put_bytes(out, at, b"exceeded"),
+        Word::Param => put_bytes(out, at, b"param"),
+        Word::EchoReq => put_bytes(out, at, b"echoreq"),
+        Word::EchoRep => put_bytes(out, at, b"echorep"),
+        Word::Rs => put_bytes(out, at, b"rs"),
+        Word::Ra => put_bytes(out, at, b"ra"),
+        Word::Ns => put_bytes(out, at, b"ns"),
+        Word::Na => put_bytes(out, at, b"na"),
+        Word::Redirect => put_bytes(out, at, b"redirect"),
+        Word::Unknown => put_bytes(out, at, b"unknown"),
+    }
+}
+
+fn put_verdict(out: &mut [u8], at: usize, ok: bool) -> usize
+    requires { ⌜ at + 4 ≤ length (now out) ⌝ }
+    ensures wrote { λ r. ⌜ Wrote (now (out .entry)) at (verdictOf ok) (now (out .exit)) r ⌝ }
+    ensures short { λ r. ⌜ r ≤ at + 4 ⌝ }
+{
+    if ok {
+        put_bytes(out, at, b" ok")
+    } else {
+        put_bytes(out, at, b" bad")
+    }
+}
+
+// Two fields and the end of the line, as `record 1 at 0`.
+fn put_two(out: &mut [u8], at: usize, name: &[u8], n: u64, other: &[u8], m: u64) -> usize
+    requires { ⌜ at + length (now name) + length (now other) + 41 ≤ length (now out) ⌝ }
+    ensures wrote { λ r. ⌜ Wrote (now (out .entry)) at (field (now (name .entry)) n ++ (field (now (other .entry)) m ++ newline)) (now (out .exit)) r ⌝ }
+    ensures short { λ r. ⌜ r ≤ at + length (now (name .entry)) + length (now (other .entry)) + 41 ⌝ }
+{
+    let a = put_field(out, at, name, n);
+    put_one(out, a, other, m)
+}
+
+// One field and the end of the line, as `records 2`.
+fn put_one(out: &mut [u8], at: usize, name: &[u8], n: u64) -> usize
+    requires { ⌜ at + length (now name) + 21 ≤ length (now out) ⌝ }
+    ensures wrote { λ r. ⌜ Wrote (now (out .entry)) at (field (now (name .entry)) n ++ newline) (now (out .exit)) r ⌝ }
+    ensures short { λ r. ⌜ r ≤ at + length (now (name .entry)) + 21 ⌝ }
+{
+    let a = put_field(out, at, name, n);
+    put_byte(out, a, b'\n')
+}
+
+// A fixed text, and a number after it.
+fn put_field(out: &mut [u8], at: usize, name: &[u8], n: u64) -> usize
+    requires { ⌜ at + length (now name) + 20 ≤ length (now out) ⌝ }
+    ensures wrote { λ r. ⌜ Wrote (now (out .entry)) at (field (now (name .entry)) n) (now (out .exit)) r ⌝ }
+    ensures short { λ r. ⌜ r ≤ at + length (now (name .entry)) + 20 ⌝ }
+{
+    let next = put_bytes(out, at, name);
+    put_decimal(out, next, n)
+}
+
+fn put_decimal(out: &mut [u8], at: usize, n: u64) -> usize
+    requires { ⌜ at + length (decimal n) ≤ length (now out) ⌝ }
+    ensures { λ r. ⌜ Wrote (now (out .entry)) at (decimal n) (now (out .exit)) r ⌝ }
+{
+    if n < 10 {
+        return put_byte(out, at, 48 + n as u8);
+    }
+    let last = put_decimal(out, at, n / 10);
+    put_byte(out, last, 48 + (n % 10) as u8)
+}
+
+fn put_hex4(out: &mut [u8], at: usize, n: u16) -> usize
+    requires { ⌜ at + 4 ≤ length (now out) ⌝ }
+    ensures { λ r. ⌜ Wrote (now (out .entry)) at (hex4 n) (now (out .exit)) r ⌝ }
+{
+    let a = glyph(n / 4096);
+    let b = glyph(n / 256 % 16);
+    let c = glyph(n / 16 % 16);
+    let d = glyph(n % 16);
+    put_bytes(out, at, &[a, b, c, d])
+}
+
+fn glyph(d: u16) -> u8
+    requires { ⌜ d < 16 ⌝ }
+    ensures { λ r. ⌜ r ≡ Digits·glyph d ⌝ }
+{
+    if d < 10 { 48 + d as u8 } else { 87 + d as u8 }
+}
+
+fn put_byte(out: &mut [u8], at: usize, byte: u8) -> usize
+    requires { ⌜ at < length (now out) ⌝ }
+    ensures { λ r. ⌜ Wrote (now (out .entry)) at (byte ∷ []) (now (out .exit)) r ⌝ }
+{
+    out[at] = byte;
+    at + 1
+}
+
+fn put_bytes(out: &mut [u8], at: usize, bytes: &[u8]) -> usize
+    requires { ⌜ at + length (now bytes) ≤ length (now out) ⌝ }
+    ensures { λ r. ⌜ Wrote (now (out .entry)) at (now (bytes .entry)) (now (out .exit)) r ⌝ }
+{
+    let n = bytes::copy(bytes, &mut out[at..]);
+    at + n
+}
