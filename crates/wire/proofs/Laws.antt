@@ -1,6 +1,6 @@
 -- Numbers taken apart into bytes and put together are the same, both ways; flags written as they were read clear the other bits.
 -- Assumes nothing.
-use Prim.Native.Nat.{ℕ, zero, suc, _+_, _*_, _/_, _%_, _<_, compare·suc-suc}
+use Prim.Native.Nat.{ℕ, zero, suc, _+_, _*_, _/_, _%_, _<_, _≤_, compare·suc-suc}
 use mathlib.Core.Path.{_≡_, refl, sym, _∙_}
 use mathlib.Core.Bool.{Bool, true, false, cond}
 use mathlib.Core.List.{List, [], _∷_}
@@ -85,3 +85,7 @@ read-three false true true = (refl, refl, refl)
 read-three false true false = (refl, refl, refl)
 read-three false false true = (refl, refl, refl)
 read-three false false false = (refl, refl, refl)
+
+pub flag-within : (b : Bool) (w : ℕ) → flagOf b w ≤ w
+flag-within true w = omega arith
+flag-within false w = omega arith
