@@ -9,7 +9,7 @@ use Rattle.ndp_option.proofs.unknown_option.from_slice.Statement.{state
 use Rattle.ndp_option.proofs.unknown_option.from_slice.Tie as tie
 use Rattle.ndp_option.proofs.unknown_option.from_slice.Reads as reads
 use Rattle.ndp_option.proofs.unknown_option.from_slice.Lts as lts
-use Rattle.ndp_option.proofs.sized.Reads as sized-reads
+use Rattle.ndp_option_read.proofs.sized.Reads as sized-reads
 
 -- src/unknown_option.rt:11:47
 shared-slice-read-id : tie.Need-shared-slice-read-id

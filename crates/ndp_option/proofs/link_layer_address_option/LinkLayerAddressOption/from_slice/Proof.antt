@@ -8,7 +8,7 @@ use Rattle.ndp_option.proofs.link_layer_address_option.LinkLayerAddress
 use Rattle.ndp_option.proofs.link_layer_address_option.LinkLayerAddressOption.from_slice.Reads as reads
 use Rattle.ndp_option.proofs.link_layer_address_option.LinkLayerAddressOption.from_slice.Lts as lts
 use Rattle.ndp_option.proofs.link_layer_address_option.LinkLayerAddressOption.option_type.Reads as option-type-reads
-use Rattle.ndp_option.proofs.sized.Reads as sized-reads
+use Rattle.ndp_option_read.proofs.sized.Reads as sized-reads
 
 -- src/link_layer_address_option.rt:28:22
 option-type-requires : tie.Need-option-type-requires

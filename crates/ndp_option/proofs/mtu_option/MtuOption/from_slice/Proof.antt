@@ -3,15 +3,15 @@
 use mathlib.Core.Path.{_≡_, sym, ap, _∙_}
 use lib.ListN.{length}
 use Rattle.refusal.proofs.Paper.{refusal-numbered}
-use Rattle.ndp_option.proofs.Rules.{exact-length}
-use Rattle.ndp_option.specs.Rule.{readTold}
+use Rattle.ndp_option_read.proofs.Rules.{exact-length}
+use Rattle.ndp_option_read.specs.Rule.{readTold}
 use Rattle.ndp_option.specs.Mtu.{mtuOf}
 use borrow.Author.Needs.{needs}
 use Rattle.ndp_option.proofs.mtu_option.MtuOption.from_slice.Statement.{statement}
 use Rattle.ndp_option.proofs.mtu_option.MtuOption.from_slice.Tie as tie
 use Rattle.ndp_option.proofs.mtu_option.MtuOption.from_slice.Reads as reads
 use Rattle.ndp_option.proofs.mtu_option.MtuOption.from_slice.Lts as lts
-use Rattle.ndp_option.proofs.exactly.Reads as exactly-reads
+use Rattle.ndp_option_read.proofs.exactly.Reads as exactly-reads
 use Rattle.wire.proofs.u32_from_be.Reads as u32-from-be-reads
 
 eight : (c : tie.After-enum-told) → length (c .before .before .before .before .args .slice .now) ≡ 8
