@@ -10,10 +10,10 @@ use Rattle.ndp_option_read.specs.Rule.{readTold}
 use Rattle.ndp_option_read.specs.declared.NdpOptionRead.{NdpOptionRead}
 use Rattle.ndp_option_read.specs.declared.NdpOptionRead.the-variants.{Accepted, Refused}
 
-abbrev readBack : Paper → NdpOptionRead
+abbrev pub readBack : Paper → NdpOptionRead
 readBack p = cond (eqb (p .number) 0) Accepted (Refused (refusalOf p))
 
-read-back : (r : NdpOptionRead) → readBack (readTold r) ≡ r
+pub read-back : (r : NdpOptionRead) → readBack (readTold r) ≡ r
 read-back Accepted = refl
 read-back (Refused why) = simp (refusal-numbered why, refusal-back why)
 

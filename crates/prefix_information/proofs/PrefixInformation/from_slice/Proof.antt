@@ -2,39 +2,29 @@
 -- Assumes nothing.
 use mathlib.Core.Path.{sym, ap, _∙_}
 use Rattle.refusal.proofs.Paper.{refusal-numbered}
-use Rattle.ndp_option_read.proofs.Rules.{exact-length}
+use Rattle.ndp_option_read.proofs.Rules.{exactly-means}
 use Rattle.ndp_option_read.specs.Rule.{readTold}
 use Rattle.prefix_information.specs.Prefix.{prefixOf}
 use borrow.Author.Needs.{needs}
 use Rattle.prefix_information.proofs.PrefixInformation.from_slice.Statement.{statement}
 use Rattle.prefix_information.proofs.PrefixInformation.from_slice.Tie as tie
-use Rattle.prefix_information.proofs.PrefixInformation.from_slice.Reads as reads
-use Rattle.prefix_information.proofs.PrefixInformation.from_slice.Lts as lts
-use Rattle.ndp_option_read.proofs.exactly.Reads as exactly-reads
-use Rattle.prefix_information.proofs.information_in.Reads as information-in-reads
 
--- src/lib.rt:42:15
 exactly-requires : tie.Need-exactly-requires
 exactly-requires c κs = search needs
 
--- src/lib.rt:44:25
 enum-told : tie.Need-enum-told
 enum-told c = search needs
 
--- src/lib.rt:45:30
 information-in-requires : tie.Need-information-in-requires
-information-in-requires c κs = exact-length 3 4 _ (sym (c .before .before .exactly .ensures) ∙ ap readTold (c .enum-told .given .1))
+information-in-requires c κs = exactly-means 3 4 _ (sym (c .before .before .exactly .ensures) ∙ ap readTold (c .enum-told .given .1)) .size
 
--- src/lib.rt:47:36
 enum-known-why : tie.Need-enum-known-why
 enum-known-why c = search needs
 
--- src/lib.rt:39:5
 returns : tie.Need-returns
 unfolding prefixOf
 returns c = let e = c .before in simp (← (e .before .before .exactly .ensures), e .enum-told .given .1, c .information-in .ensures)
 
--- src/lib.rt:39:5
 returns-2 : tie.Need-returns-2
 unfolding prefixOf
 returns-2 c = simp (← (c .before .before .before .exactly .ensures), c .before .why .given .1, refusal-numbered)
