@@ -1,6 +1,5 @@
 pub mod Digits
 pub mod Fitting
-pub mod Longest
 pub mod Examples
 pub mod Paper
 pub mod Unique

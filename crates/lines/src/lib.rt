@@ -38,7 +38,7 @@ pub enum Line {
         sum: u16,
         ok: bool,
         len: u64,
-        recv: u8,
+        recv: u64,
     },
     Opt {
         place: u64,
@@ -75,7 +75,7 @@ pub enum Put {
 
 // Puts a line over the bytes from a place on, or nothing where it does not fit whole.
 pub fn put_line(out: &mut [u8], at: usize, line: Line) -> Put
-    ensures answers { λ r. ⌜ paper r ≡ putOf (now (out .entry)) at (text line) ⌝ }
+    ensures answers { λ r. ⌜ (paper r ≡ putOf (now (out .entry)) at (text line)) × (length (text line) ≤ 128) ⌝ }
     ensures lent { λ r. ⌜ now (out .exit) ≡ leaves (putOf (now (out .entry)) at (text line)) (now (out .entry)) at (text line) ⌝ }
 {
     let room = left_after(out, at);
@@ -148,7 +148,7 @@ fn put_head(
     sum: u16,
     ok: bool,
     len: u64,
-    recv: u8,
+    recv: u64,
 ) -> usize
     requires { ⌜ at + 128 ≤ length (now out) ⌝ }
     ensures wrote { λ r. ⌜ Wrote (now (out .entry)) at (text (Line.Head word code sum ok len recv)) (now (out .exit)) r ⌝ }
@@ -160,7 +160,7 @@ fn put_head(
     let d = put_hex4(out, c, sum);
     let e = put_verdict(out, d, ok);
     let f = put_field(out, e, b" len ", len);
-    put_one(out, f, b" recv ", recv as u64)
+    put_one(out, f, b" recv ", recv)
 }
 
 fn put_word(out: &mut [u8], at: usize, word: Word) -> usize

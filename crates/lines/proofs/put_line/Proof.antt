@@ -7,6 +7,7 @@ use lib.ListN.{length, take}
 use denote.Ref.{now}
 use Rattle.lines.specs.Line.{text}
 use Rattle.lent.proofs.Wrote.{start}
+use Prim.Native.Nat.{_≤_}
 use borrow.Author.Needs.{needs}
 use Rattle.lines.proofs.put_line.Statement.{statement}
 use Rattle.lines.proofs.put_line.Tie as tie
@@ -26,7 +27,8 @@ returns c =
     let i = l .before .before in
     let a = i .before .before .before .before .args in
     let w = l .put-text .ensures .0 in
-    simp (fits (now (a .out)) (a .at) (text (a .line)) (omega (arith, w .ends, l .put-text .ensures .1, i .if1 .taken, i .before .left-after .ensures)), w .ends) (refl, w .holds)
+    let few : length (text (a .line)) ≤ 128 = omega (arith, w .ends, l .put-text .ensures .1) in
+    simp (fits (now (a .out)) (a .at) (text (a .line)) (omega (arith, w .ends, l .put-text .ensures .1, i .if1 .taken, i .before .left-after .ensures)), w .ends) ((refl, few), w .holds)
 
 slice-aggregate-put-text : tie.Need-slice-aggregate-put-text
 slice-aggregate-put-text c = search needs
@@ -42,8 +44,9 @@ returns-2 c =
     let l = c .before .before in
     let i = l .before .before in
     let a = i .before .before .before .before .args in
+    let few : length (text (a .line)) ≤ 128 = omega (arith, l .put-text2 .ensures .0 .ends, l .put-text2 .ensures .1) in
     let all : l .put-text2 .result ≡ length (text (a .line)) = omega (arith, l .put-text2 .ensures .0 .ends) in
-    simp (narrow (now (a .out)) (a .at) (text (a .line)) (omega (arith, c .if2 .taken, i .before .left-after .ensures)), all) (refl, refl)
+    simp (narrow (now (a .out)) (a .at) (text (a .line)) (omega (arith, c .if2 .taken, i .before .left-after .ensures)), all) ((refl, few), refl)
 
 array-share-prefix-own : tie.Need-array-share-prefix-own
 array-share-prefix-own c = search needs
@@ -78,8 +81,9 @@ returns-3 c =
     let l = t .before .before in
     let i = l .before .before in
     let a = i .before .before .before .before .args in
+    let few : length (text (a .line)) ≤ 128 = omega (arith, l .put-text2 .ensures .0 .ends, l .put-text2 .ensures .1) in
     let w = rw (own t) at (p .put-bytes .ensures) in
-    simp (fits (now (a .out)) (a .at) (text (a .line)) (omega (arith, l .put-text2 .ensures .0 .ends, t .if2 .left, i .before .left-after .ensures)), w .ends) (refl, w .holds)
+    simp (fits (now (a .out)) (a .at) (text (a .line)) (omega (arith, l .put-text2 .ensures .0 .ends, t .if2 .left, i .before .left-after .ensures)), w .ends) ((refl, few), w .holds)
 
 pub put-line-spec : {M : Type 1} → statement M
 put-line-spec =
