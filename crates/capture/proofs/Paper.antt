@@ -9,9 +9,7 @@ use Rattle.paper.proofs.Lossless.{lossless}
 use Rattle.refusal.proofs.Paper.{refusalOf, refusal-back, refusal-numbered}
 use Rattle.capture.specs.declared.Next.{Next}
 use Rattle.capture.specs.declared.Next.the-variants as next
-use Rattle.capture.specs.declared.Written.{Written}
-use Rattle.capture.specs.declared.Written.the-variants as written
-use Rattle.capture.specs.Paper.{nextPaper, writtenPaper}
+use Rattle.capture.specs.Paper.{nextPaper}
 
 abbrev foundOf : Paper → Next
 foundOf p =
@@ -36,13 +34,3 @@ next-back (next.Refused why) = simp (refusal-numbered why, refusal-back why)
 
 pub next-lossless : (x y : Next) → nextPaper x ≡ nextPaper y → x ≡ y
 next-lossless = lossless nextPaper nextBack next-back
-
-abbrev writtenBack : Paper → Written
-writtenBack p = cond (eqb (p .number) 0) (written.Bytes (getD (p .values) 0 0)) (written.Refused (refusalOf p))
-
-written-back : (x : Written) → writtenBack (writtenPaper x) ≡ x
-written-back (written.Bytes n) = refl
-written-back (written.Refused why) = simp (refusal-numbered why, refusal-back why)
-
-pub written-lossless : (x y : Written) → writtenPaper x ≡ writtenPaper y → x ≡ y
-written-lossless = lossless writtenPaper writtenBack written-back

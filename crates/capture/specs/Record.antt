@@ -62,13 +62,6 @@ nextOf s at base =
     cond (ltb (length s) at) (refuses 14 (placeIn base at ∷ []))
     (recordOf (drop at s) at (placeIn base at))
 
--- the writer: 13, then 9; else the record's length
-unfoldable pub writeOf : List ℕ → List ℕ → Paper
-writeOf p out =
-    cond (ltb 2048 (length p)) (refuses 13 (length p ∷ []))
-    (cond (ltb (length out) (37 + length p)) (refuses 9 ((37 + length p) ∷ []))
-    (gives ((37 + length p) ∷ [])))
-
--- the buffer afterwards: as it was where the answer refuses, else the bytes over its start
-abbrev pub leaves : Paper → List ℕ → List ℕ → List ℕ
-leaves answer bytes out = cond (eqb (answer .number) 0) (bytes ++ drop (getD (answer .values) 0 0) out) out
+-- an answer that is given only where a record can hold the packet, else refusal 13
+unfoldable pub recorded : List ℕ → Paper → Paper
+recorded p answer = cond (ltb 2048 (length p)) (refuses 13 (length p ∷ [])) answer

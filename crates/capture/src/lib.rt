@@ -3,8 +3,10 @@ ghost use mathlib.Core.Path.{_≡_};
 ghost use Prim.Native.Nat.{_+_, _*_, _≤_, _<_};
 ghost use lib.ListN.{length, take, drop};
 ghost use Rattle.lent.specs.Wrote.{Wrote};
-ghost use Rattle.capture.specs.Record.{recordBytes, recordOf, nextOf, writeOf, leaves};
-ghost use Rattle.capture.specs.Paper.{nextPaper, writtenPaper};
+ghost use Rattle.lent.specs.Put.{paper, putOf, leaves};
+ghost use Rattle.capture.specs.Record.{recordBytes, recordOf, nextOf, recorded};
+ghost use Rattle.capture.specs.Paper.{nextPaper};
+use lent::Put;
 use refusal::Refusal;
 
 // The bytes before the packet: the mark, a hop limit, two addresses and the packet's length.
@@ -25,11 +27,6 @@ pub struct Record {
 pub enum Next {
     Found(Record),
     End,
-    Refused(Refusal),
-}
-
-pub enum Written {
-    Bytes(usize),
     Refused(Refusal),
 }
 
@@ -107,25 +104,27 @@ pub fn write_record(
     destination: &[u8; 16],
     packet: &[u8],
     out: &mut [u8],
-) -> Written
-    ensures answers { λ r. ⌜ writtenPaper r ≡ writeOf (now (packet .entry)) (now (out .entry)) ⌝ }
-    ensures lent { λ r. ⌜ now (out .exit) ≡ leaves (writeOf (now (packet .entry)) (now (out .entry))) (recordBytes «hop_limit» (now (source .entry)) (now (destination .entry)) (now (packet .entry))) (now (out .entry)) ⌝ }
+) -> Put
+    ensures answers { λ r. ⌜ paper r ≡ recorded (now (packet .entry)) (putOf (now (out .entry)) 0 (recordBytes «hop_limit» (now (source .entry)) (now (destination .entry)) (now (packet .entry)))) ⌝ }
+    ensures lent { λ r. ⌜ now (out .exit) ≡ leaves (recorded (now (packet .entry)) (putOf (now (out .entry)) 0 (recordBytes «hop_limit» (now (source .entry)) (now (destination .entry)) (now (packet .entry))))) (now (out .entry)) 0 (recordBytes «hop_limit» (now (source .entry)) (now (destination .entry)) (now (packet .entry))) ⌝ }
 {
     let len = packet.len();
     if MAX_PACKET_LEN < len {
-        return Written::Refused(Refusal::LongRecord { length: len });
+        return Put::Refused(Refusal::LongRecord { length: len });
     }
+    let from: &[u8] = source;
+    let to: &[u8] = destination;
     let total = HEAD_LEN + len;
     if out.len() < total {
-        return Written::Refused(Refusal::ShortOutput { needed: total });
+        return Put::Refused(Refusal::ShortOutput { needed: total });
     }
     let a = put_bytes(out, 0, b"I6");
     let b = put_bytes(out, a, &[hop_limit]);
-    let c = put_bytes(out, b, source);
-    let d = put_bytes(out, c, destination);
+    let c = put_bytes(out, b, from);
+    let d = put_bytes(out, c, to);
     let e = put_bytes(out, d, &[(len / 256) as u8, (len % 256) as u8]);
     put_bytes(out, e, packet);
-    Written::Bytes(total)
+    Put::To(total)
 }
 
 // The bytes, over those from a place on; answers the place after them.

@@ -1,1 +1,4 @@
 pub mod Wrote
+pub mod Fitting
+pub mod Paper
+pub mod Unique

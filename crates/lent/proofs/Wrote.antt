@@ -5,10 +5,10 @@ use mathlib.Core.Path.{_≡_, refl, sym, ap, _∙_}
 use mathlib.Core.Bool.{Bool, true, false}
 use mathlib.Core.List.{List, [], _∷_, _++_, append-assoc, append-nil}
 use native.Mathlib.Omega.{arith}
-use native.Mathlib.Nat.{add-assoc, zero-add}
+use native.Mathlib.Nat.{add-assoc, zero-add, add-zero}
 use native.Mathlib.Numerals.{add-one}
 use lib.Dec.{leb}
-use lib.ListN.{length, take, drop, set, length-append, drop-of-length-le, length-drop}
+use lib.ListN.{length, take, drop, take-append-drop, set, length-append, drop-of-length-le, length-drop}
 use lib.Seq.{take-length, length-take-le, take-all, take-at, drop-at, drop-drop, set-split, append-snoc}
 use borrow.Author.Tests.{leb-true, leb-false}
 use Rattle.lent.specs.Wrote.{over, Wrote}
@@ -86,3 +86,12 @@ copied out at bytes part fits e =
       ends = refl;
       holds = rw (e, none, append-nil, take-all (length out - at) (drop at out) all, take-length bytes, drop-drop (length bytes) at out) (sym (append-assoc (take at out) bytes (drop (at + length bytes) out)));
     }
+
+-- no bytes
+pub nothing : (out : List ℕ) (at : ℕ) (bytes : List ℕ) → length bytes ≡ 0 → Wrote out at bytes out at
+unfolding over
+nothing out at [] h = record { ends = sym (add-zero at); holds = rw (add-zero at, append-nil (take at out)) (sym (take-append-drop at out)) }
+nothing out at (b ∷ bytes) h = absurd (some (length bytes) h)
+  where
+    some : (n : ℕ) → suc n ≡ 0 → ⊥
+    some n h = omega arith

@@ -1,19 +1,12 @@
--- The text of each line, and what putting it answers and leaves.
+-- The text of each line.
 -- Assumes nothing.
-use Prim.Native.Nat.{ℕ, _+_, _-_}
-use mathlib.Core.Bool.{Bool, true, false, cond}
-use mathlib.Core.List.{List, [], _∷_}
-use lib.Dec.{ltb, eqb}
-use lib.ListN.{length}
-use Rattle.paper.specs.Paper.{Paper, refuses, gives}
-use Rattle.refusal.specs.Paper.{refusal}
-use Rattle.lent.specs.Wrote.{over}
+use Prim.Native.Nat.{ℕ, _-_}
+use mathlib.Core.Bool.{Bool, true, false}
+use mathlib.Core.List.{List}
 use Rattle.lines.specs.declared.Word.{Word}
 use Rattle.lines.specs.declared.Word.the-variants.{Unreach, TooBig, Exceeded, Param, EchoReq, EchoRep, Rs, Ra, Ns, Na, Redirect, Unknown}
 use Rattle.lines.specs.declared.Line.{Line}
 use Rattle.lines.specs.declared.Line.the-variants as line
-use Rattle.lines.specs.declared.Put.{Put}
-use Rattle.lines.specs.declared.Put.the-variants as put
 use Rattle.lines.specs.Text.{ascii, titleLine, recordLine, headLine, optLine, endLine, refusedAtLine, refusedLine, recordsLine, stoppedLine}
 
 abbrev pub wordOf : Word → List ℕ
@@ -45,18 +38,3 @@ text (line.RefusedAt r p) = refusedAtLine r p
 text (line.Refused r) = refusedLine r
 text (line.Records n) = recordsLine n
 text (line.Stopped r p) = stoppedLine r p
-
--- the place after the line
-abbrev pub paper : Put → Paper
-paper (put.To n) = gives (n ∷ [])
-paper (put.Refused why) = refusal why
-
--- refusal 9 where fewer bytes are left from the place on than the line has, with the bytes that it needs there
-unfoldable pub putOf : List ℕ → ℕ → List ℕ → Paper
-putOf out at line =
-    cond (ltb (length out - at) (length line)) (refuses 9 (length line ∷ []))
-    (gives ((at + length line) ∷ []))
-
--- the buffer afterwards: as it was where the line is refused
-abbrev pub leaves : Paper → List ℕ → ℕ → List ℕ → List ℕ
-leaves answer out at line = cond (eqb (answer .number) 0) (over out at line) out

@@ -1,13 +1,14 @@
 // The lines of the dump, written into a lent buffer (document 01, "The dump and its records").
 ghost use mathlib.Core.Path.{_≡_};
 ghost use mathlib.Core.List.{[], _∷_, _++_};
-ghost use Prim.Native.Nat.{_+_, _-_, _≤_, _<_};
+ghost use Prim.Native.Nat.{_+_, _≤_, _<_};
 ghost use lib.ListN.{length};
 ghost use Rattle.lent.specs.Wrote.{Wrote};
 ghost use Rattle.lines.specs.Digits.{decimal, hex4, glyph as Digits·glyph};
 ghost use Rattle.lines.specs.Text.{field, newline};
-ghost use Rattle.lines.specs.Line.{wordOf, verdictOf, text, putOf, leaves, paper};
-use refusal::Refusal;
+ghost use Rattle.lent.specs.Put.{paper, putOf, leaves};
+ghost use Rattle.lines.specs.Line.{wordOf, verdictOf, text};
+use lent::Put;
 
 // The words for the message types.
 pub enum Word {
@@ -67,33 +68,17 @@ pub enum Line {
 // No line has more bytes.
 pub const LONGEST: usize = 128;
 
-// The place after the line, or refusal 9 with the bytes that the line needs.
-pub enum Put {
-    To(usize),
-    Refused(Refusal),
-}
-
-// Puts a line over the bytes from a place on, or nothing where it does not fit whole.
+// Puts a line over the bytes from a place on, or nothing where it does not fit whole: the place after it, or refusal 9.
 pub fn put_line(out: &mut [u8], at: usize, line: Line) -> Put
     ensures answers { λ r. ⌜ (paper r ≡ putOf (now (out .entry)) at (text line)) × (length (text line) ≤ 128) ⌝ }
     ensures lent { λ r. ⌜ now (out .exit) ≡ leaves (putOf (now (out .entry)) at (text line)) (now (out .entry)) at (text line) ⌝ }
 {
-    let room = left_after(out, at);
-    if LONGEST <= room {
+    if LONGEST <= lent::room(out, at) {
         return Put::To(put_text(out, at, line));
     }
     let mut own = [0u8; 128];
     let n = put_text(&mut own, 0, line);
-    if room < n {
-        return Put::Refused(Refusal::ShortOutput { needed: n });
-    }
-    Put::To(put_bytes(out, at, &own[..n]))
-}
-
-fn left_after(out: &[u8], at: usize) -> usize
-    ensures { λ r. ⌜ r ≡ length (now (out .entry)) - at ⌝ }
-{
-    if at < out.len() { out.len() - at } else { 0 }
+    lent::put_bytes(out, at, &own[..n])
 }
 
 // Each of the following puts its text over the bytes from a place on, and answers the place after it.

@@ -1,10 +1,14 @@
 -- `capture::write_record` meets its contract: a refusal comes before the first store, and the parts are put one after the other.
 -- Assumes nothing.
+use Prim.Native.Nat.{_+_}
+use lib.ListN.{length}
+use native.Mathlib.Nat.{zero-add}
 use native.Mathlib.Omega.{arith}
 use denote.Ref.{now}
-use mathlib.Core.Path.{sym}
+use mathlib.Core.Path.{_≡_, refl, sym, _∙_}
+use Rattle.lent.proofs.Fitting.{fits, narrow}
 use Rattle.lent.proofs.Wrote.{_then_}
-use Rattle.capture.proofs.Writing.{long, narrow, written}
+use Rattle.capture.proofs.Writing.{not-held, held, record-length}
 use Rattle.capture.specs.Record.{recordBytes}
 use borrow.Author.Needs.{needs}
 use Rattle.capture.proofs.write_record.Statement.{statement}
@@ -13,17 +17,29 @@ use Rattle.capture.proofs.write_record.Tie as tie
 returns : tie.Need-returns
 returns c =
     let a = c .before .before .before .args in
-    let e = long (now (a .packet)) (now (a .out)) (c .if1 .taken) in
-    (sym e, rw e)
+    simp (not-held (now (a .packet)) (c .if1 .taken)) (refl, refl)
 
 add-total : tie.Need-add-total
 add-total c = search needs
 
+-- the addresses have sixteen bytes each, so the record has 37 and the packet's
+abbrev Sized : tie.After-to → Type 0
+Sized c =
+    let a = c .before .before .before .before .before .args in
+    length (recordBytes (a .hop-limit) (now (a .source)) (now (a .destination)) (now (a .packet))) ≡ 37 + length (now (a .packet))
+
+sized : (c : tie.After-to) → Sized c
+sized c =
+    let a = c .before .before .before .before .before .args in
+    record-length (a .hop-limit) (now (a .source)) (now (a .destination)) (now (a .packet)) (omega (arith, c .before .from .given)) (omega (arith, c .to .given))
+
 returns-2 : tie.Need-returns-2
 returns-2 c =
-    let a = c .before .before .before .before .args in
-    let e = narrow (now (a .packet)) (now (a .out)) (c .before .if1 .left) (c .if2 .taken) in
-    (sym e, rw e)
+    let t = c .before in
+    let i = t .before .before in
+    let a = i .before .before .before .args in
+    let bytes = recordBytes (a .hop-limit) (now (a .source)) (now (a .destination)) (now (a .packet)) in
+    simp (held (now (a .packet)) (i .if1 .left), narrow (now (a .out)) 0 bytes (omega (arith, sized t, c .if2 .taken)), sized t) (refl, refl)
 
 slice-aggregate-put-bytes : tie.Need-slice-aggregate-put-bytes
 slice-aggregate-put-bytes c = search needs
@@ -67,12 +83,16 @@ returns-3 c =
     let p = c .before .before in
     let l = p .before .before .before .before in
     let d = l .before .before .before .before .before in
-    let s = d .before .before .before .before .before in
-    let h = s .before .before .before .before .before in
+    let s = d .before .before .before .before in
+    let h = s .before .before .before .before in
     let m = h .before .before .before .before .before in
-    let i = m .before .before .before in
-    let a = i .before .before .before .before .args in
-    written (a .hop-limit) (now (a .source)) (now (a .destination)) (now (a .packet)) (now (a .out)) (omega (arith, s .before .put-bytes-arg6 .given)) (omega (arith, d .before .put-bytes-arg8 .given)) (i .before .if1 .left) (i .if2 .left) _ _ (m .put-bytes .ensures then h .put-bytes2 .ensures then s .put-bytes3 .ensures then d .put-bytes4 .ensures then l .put-bytes5 .ensures then p .put-bytes6 .ensures)
+    let k = m .before .before .before in
+    let t = k .before in
+    let i = t .before .before in
+    let a = i .before .before .before .args in
+    let bytes = recordBytes (a .hop-limit) (now (a .source)) (now (a .destination)) (now (a .packet)) in
+    let w = m .put-bytes .ensures then h .put-bytes2 .ensures then s .put-bytes3 .ensures then d .put-bytes4 .ensures then l .put-bytes5 .ensures then p .put-bytes6 .ensures in
+    simp (held (now (a .packet)) (i .if1 .left), fits (now (a .out)) 0 bytes (omega (arith, sized t, k .if2 .left)), sized t, zero-add) (refl, w .holds)
 
 pub write-record-spec : {M : Type 1} → statement M
 write-record-spec =

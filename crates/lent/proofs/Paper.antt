@@ -11,9 +11,9 @@ use Rattle.paper.proofs.Lossless.{lossless}
 use Rattle.refusal.specs.declared.Refusal.{Refusal}
 use Rattle.refusal.specs.Paper.{refusal}
 use Rattle.refusal.proofs.Paper.{refusalOf, refusal-back, refusal-numbered}
-use Rattle.lines.specs.declared.Put.{Put}
-use Rattle.lines.specs.declared.Put.the-variants.{To, Refused}
-use Rattle.lines.specs.Line.{paper}
+use Rattle.lent.specs.declared.Put.{Put}
+use Rattle.lent.specs.declared.Put.the-variants.{To, Refused}
+use Rattle.lent.specs.Put.{paper}
 
 abbrev putBack : Paper → Put
 putBack p = cond (eqb (p .number) 0) (To (getD (p .values) 0 0)) (Refused (refusalOf p))

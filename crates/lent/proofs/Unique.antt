@@ -1,0 +1,17 @@
+-- Each public call's promise leaves one answer and one content of the lent buffer.
+-- Assumes nothing.
+use Prim.Native.Nat.{ℕ}
+use mathlib.Core.List.{List}
+use mathlib.Core.Path.{refl, sym, _∙_, ap}
+use Rattle.paper.specs.Only.{Only}
+use Rattle.paper.proofs.Facts.{one, two}
+use Rattle.lent.proofs.Paper.{put-lossless}
+use Rattle.lent.proofs.put_bytes as put-bytes
+use Rattle.lent.proofs.room as room
+
+pub put-bytes-unique : Only put-bytes.ended (λ M 𝓤. put-bytes.clauses 𝓤)
+put-bytes-unique M 𝓤 H A m f κs a g x y v w =
+    two 𝓤 (λ p out q out′. (put-lossless x y (p ∙ sym q), ap (λ (l : List ℕ). (l, (tt, (tt, tt)))) (out ∙ sym out′)))
+
+pub room-unique : Only room.ended (λ M 𝓤. room.clauses 𝓤)
+room-unique M 𝓤 H A m f κs a g x y v w = one 𝓤 (λ p q. (p ∙ sym q, refl))
