@@ -29,15 +29,12 @@ pub enum Verdict {
     Refused(Refusal),
 }
 
-// The carries taken round until 16 bits are left.
+// The carries taken round until 16 bits are left: of 32 bits, two rounds do.
 fn fold(total: u32) -> u16
     ensures { λ r. ⌜ r ≡ folded total ⌝ }
 {
-    let mut t = total;
-    while 65535 < t {
-        t = t % 65536 + t / 65536;
-    }
-    t as u16
+    let t = total % 65536 + total / 65536;
+    (t % 65536 + t / 65536) as u16
 }
 
 // A 16-bit number with its two bytes exchanged.
