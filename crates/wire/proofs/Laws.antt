@@ -1,6 +1,6 @@
 -- Numbers taken apart into bytes and put together are the same, both ways; flags written as they were read clear the other bits.
 -- Assumes nothing.
-use Prim.Native.Nat.{ℕ, zero, suc, _+_, _*_, _/_, _%_, _<_, compare·suc-suc}
+use Prim.Native.Nat.{ℕ, zero, suc, _+_, _*_, _/_, _%_, _<_, _≤_, compare·suc-suc}
 use mathlib.Core.Path.{_≡_, refl, sym, _∙_}
 use mathlib.Core.Bool.{Bool, true, false, cond}
 use mathlib.Core.List.{List, [], _∷_}
@@ -31,11 +31,14 @@ join32 x h =
     (div-add-mod' (x / 256 / 256) 256))
 
 module _ (a b : ℕ) (ha : a < 256) (hb : b < 256) where
+  pub high16 : word16 a b / 256 % 256 ≡ a
+  high16 = omega arith
+
+  pub low16 : word16 a b % 256 ≡ b
+  low16 = omega arith
+
   pub split16 : bytes16 (word16 a b) ≡ a ∷ b ∷ []
-  split16 =
-      let high : word16 a b / 256 % 256 ≡ a = omega arith in
-      let low : word16 a b % 256 ≡ b = omega arith in
-      simp (high, low)
+  split16 = simp (high16, low16)
 
 module _ (p q r s : ℕ) (hp : p < 256) (hq : q < 256) (hr : r < 256) (hs : s < 256) where
   pub split32 : bytes32 (word32 p q r s) ≡ p ∷ q ∷ r ∷ s ∷ []
@@ -85,3 +88,7 @@ read-three false true true = (refl, refl, refl)
 read-three false true false = (refl, refl, refl)
 read-three false false true = (refl, refl, refl)
 read-three false false false = (refl, refl, refl)
+
+pub flag-within : (b : Bool) (w : ℕ) → flagOf b w ≤ w
+flag-within true w = omega arith
+flag-within false w = omega arith

@@ -1,0 +1,3 @@
+pub mod Mtu
+pub mod LinkLayer
+pub mod Cases

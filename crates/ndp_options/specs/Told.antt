@@ -1,0 +1,36 @@
+-- The number and values of each case of the answers.
+-- Assumes nothing.
+use Prim.Native.Nat.{ℕ}
+use Rattle.refusal.specs.Paper.{refusal}
+use Rattle.ndp_walk.specs.Judge as by
+use Rattle.ndp_walk.specs.Walk.{Item, item}
+use Rattle.ndp_walk.specs.Step.{Told, told, ended, stopped, handed}
+use Rattle.ndp_options.specs.declared.NdpOptionKind.{NdpOptionKind}
+use Rattle.ndp_options.specs.declared.NdpOptionKind.the-variants.{Unknown, SourceLinkLayerAddress, TargetLinkLayerAddress, PrefixInformation, RedirectedHeader, Mtu}
+use Rattle.ndp_options.specs.declared.NdpOption.{NdpOption}
+use Rattle.ndp_options.specs.declared.Judged.{Judged}
+use Rattle.ndp_options.specs.declared.Judged.the-variants.{Over, Bad, Good}
+use Rattle.ndp_options.specs.declared.Step.{Step}
+use Rattle.ndp_options.specs.declared.Step.the-variants.{Handed, End, Refused, Stopped}
+
+abbrev pub kindNumber : NdpOptionKind → ℕ
+kindNumber Unknown = 0
+kindNumber SourceLinkLayerAddress = 1
+kindNumber TargetLinkLayerAddress = 2
+kindNumber PrefixInformation = 3
+kindNumber RedirectedHeader = 4
+kindNumber Mtu = 5
+
+abbrev pub itemTold : NdpOption → Item
+itemTold o = item (kindNumber (o .kind)) (o .«option_type» .0) (o .at) (o .len)
+
+abbrev pub judgedTold : Judged → by.Judgement
+judgedTold Over = by.Over
+judgedTold (Bad why) = by.Bad (refusal why)
+judgedTold (Good kind id len) = by.Good (kindNumber kind) (id .0) len
+
+abbrev pub stepTold : Step → Told
+stepTold (Handed o next) = handed (itemTold o) (next .at)
+stepTold End = ended
+stepTold (Refused why next) = told (refusal why) (next .at)
+stepTold Stopped = stopped

@@ -1,0 +1,17 @@
+-- Document 01's walk, and a step of it: those of its rule.
+-- Assumes nothing.
+use Prim.Native.Nat.{ℕ}
+use mathlib.Core.List.{List}
+use Rattle.ndp_walk.specs.Walk.{Walk}
+use Rattle.ndp_walk.specs.Walk as by
+use Rattle.ndp_walk.specs.Step.{Told, stepBy}
+use Rattle.ndp_options.specs.Rule.{rule}
+
+abbrev pub walk : List ℕ → Walk
+walk s = by.walk rule s
+
+abbrev pub walkFrom : ℕ → List ℕ → Walk
+walkFrom at l = by.walkFrom rule at l
+
+abbrev pub stepOf : List ℕ → ℕ → Told
+stepOf s at = stepBy rule s at
