@@ -24,14 +24,14 @@ wordOf Redirect = ascii "redirect"
 wordOf Unknown = ascii "unknown"
 
 -- whether the checksum is right
-abbrev pub verdictOf : Bool → List ℕ
-verdictOf true = ascii " ok"
-verdictOf false = ascii " bad"
+abbrev pub okWord : Bool → List ℕ
+okWord true = ascii " ok"
+okWord false = ascii " bad"
 
 abbrev pub text : Line → List ℕ
 text line.Title = titleLine
 text (line.Record n p) = recordLine n p
-text (line.Head w c s ok l r) = headLine (wordOf w) c s (verdictOf ok) l r
+text (line.Head w c s ok l r) = headLine (wordOf w) c s (okWord ok) l r
 text (line.Opt p k l) = optLine p k l
 text (line.End n) = endLine n
 text (line.RefusedAt r p) = refusedAtLine r p

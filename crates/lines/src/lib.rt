@@ -7,7 +7,7 @@ ghost use Rattle.lent.specs.Wrote.{Wrote};
 ghost use Rattle.lines.specs.Digits.{decimal, hex4, glyph as Digits·glyph};
 ghost use Rattle.lines.specs.Text.{field, newline};
 ghost use Rattle.lent.specs.Put.{paper, putOf, leaves};
-ghost use Rattle.lines.specs.Line.{wordOf, verdictOf, text};
+ghost use Rattle.lines.specs.Line.{wordOf, okWord, text};
 use lent::Put;
 
 // The words for the message types.
@@ -171,7 +171,7 @@ fn put_word(out: &mut [u8], at: usize, word: Word) -> usize
 
 fn put_verdict(out: &mut [u8], at: usize, ok: bool) -> usize
     requires { ⌜ at + 4 ≤ length (now out) ⌝ }
-    ensures wrote { λ r. ⌜ Wrote (now (out .entry)) at (verdictOf ok) (now (out .exit)) r ⌝ }
+    ensures wrote { λ r. ⌜ Wrote (now (out .entry)) at (okWord ok) (now (out .exit)) r ⌝ }
     ensures short { λ r. ⌜ r ≤ at + 4 ⌝ }
 {
     if ok {

@@ -1,0 +1,42 @@
+-- `listing::put_line` meets its contract: a line of at most 128 bytes is not refused.
+-- Assumes nothing.
+use denote.Ref.{now}
+use native.Mathlib.Omega.{arith}
+use Rattle.lent.proofs.Fitting.{told, not-full}
+use Rattle.lines.specs.Line.{text}
+use borrow.Author.Needs.{needs}
+use Rattle.listing.proofs.put_line.Statement.{statement}
+use Rattle.listing.proofs.put_line.Tie as tie
+
+put-line-requires : tie.Need-put-line-requires
+put-line-requires c κs = search needs
+
+enum-known-n : tie.Need-enum-known-n
+enum-known-n c = search needs
+
+enum-told : tie.Need-enum-told
+enum-told c = search needs
+
+same-length : tie.Need-same-length
+same-length c = search needs
+
+returns : tie.Need-returns
+returns c =
+    let p = c .before .before .before .before .before in
+    let a = p .before .before .before in
+    let w = told (now (a .args .out)) (a .args .at) (text (a .args .line)) _ (p .put-line .result) (p .put-line .ensures .0 .0) (p .put-line .ensures .1) (omega (arith, a .pre, p .put-line .ensures .0 .1)) (c .before .n .given .0 .0) (c .before .n .given .1) in
+    (w, omega (arith, w .ends, p .put-line .ensures .0 .1))
+
+same-length-2 : tie.Need-same-length-2
+same-length-2 c = search needs
+
+returns-2 : tie.Need-returns-2
+returns-2 c =
+    let p = c .before .before .before .before in
+    let a = p .before .before .before in
+    absurd (not-full (now (a .args .out)) (a .args .at) (text (a .args .line)) _ (p .put-line .result) (p .put-line .ensures .0 .0) (p .put-line .ensures .1) (omega (arith, a .pre, p .put-line .ensures .0 .1)) _ (c .enum-told .given .1))
+
+pub put-line-spec : {M : Type 1} → statement M
+put-line-spec =
+    tie.close
+    (tie.spec put-line-requires enum-known-n enum-told same-length returns same-length-2 returns-2)
