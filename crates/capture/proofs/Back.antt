@@ -7,7 +7,7 @@ use native.Mathlib.Omega.{arith}
 use lib.ListN.{length, getD, take, drop, length-append, length-drop}
 use lib.Seq.{take-at, drop-at, getD-at, take-add, take-suc, length-take-le}
 use Rattle.paper.specs.Paper.{Paper, gives}
-use Rattle.capture.specs.Record.{mark, hopLimit, source, destination, packet, packetLen, places, recordBytes, recordOf}
+use Rattle.capture.specs.Record.{mark, hopLimit, source, destination, packet, packetLen, recordBytes, recordOf}
 use Rattle.capture.specs.Capture.{recordLen}
 use Rattle.capture.proofs.Judged.{begins-take, whole}
 use Rattle.capture.proofs.Laws.{Found}
@@ -62,18 +62,18 @@ module _ (hop : ℕ) (src dst p t : List ℕ) (s16 : length src ≡ 16) (d16 : l
       rw (len-back, grouped-packet)
       (ap (take (length p)) (drop-at (front ++ (length p / 256 ∷ length p % 256 ∷ [])) (p ++ t) 37 (simp (length-append, front-length))) ∙ take-at p t (length p) refl)
 
-  -- read back at any place: what was written, whatever follows it
-  pub read-back : (at place : ℕ) → length p ≤ 2048 → recordOf (recordBytes hop src dst p ++ t) at place ≡ gives (places hop (length p) at)
+  -- read back: what was written, whatever follows it
+  pub read-back : (place : ℕ) → length p ≤ 2048 → recordOf (recordBytes hop src dst p ++ t) place ≡ gives (hop ∷ length p ∷ [])
   unfolding recordBytes
-  read-back at place few =
+  read-back place few =
       let n : length (recordBytes hop src dst p ++ t) ≡ 37 + length p + length t = simp length-append (omega arith) in
-      whole (recordBytes hop src dst p ++ t) at place (omega arith) refl (omega arith) (rw len-back few) (rw len-back (omega arith)) ∙ rw len-back
+      whole (recordBytes hop src dst p ++ t) place (omega arith) refl (omega arith) (rw len-back few) (rw len-back (omega arith)) ∙ rw len-back
 
 -- the bytes of a record are made of its parts; the length's low byte is a byte
-pub determined : (s : List ℕ) (at : ℕ) (p : Paper) → Found s at p → getD s 36 0 < 256
+pub determined : (s : List ℕ) (p : Paper) → Found s p → getD s 36 0 < 256
     → take (recordLen s) s ≡ recordBytes (hopLimit s) (source s) (destination s) (packet s)
 unfolding recordBytes
-determined s at p f low =
+determined s p f low =
     let n : length (packet s) ≡ packetLen s = length-take-le (packetLen s) (drop 37 s) (simp length-drop (omega (arith, f .fits))) in
     let high : packetLen s / 256 ≡ getD s 35 0 = omega arith in
     let lower : packetLen s % 256 ≡ getD s 36 0 = omega arith in

@@ -9,7 +9,7 @@ use lib.Dec.{eqb}
 use lib.ListN.{length, take, drop, take-append-drop}
 use borrow.Author.Tests.{eqb-true, eq-eqb, ne-eqb, lt-ltb, le-ltb}
 use Rattle.paper.specs.Paper.{refuses, gives}
-use Rattle.capture.specs.Record.{mark, begins, hopLimit, packetLen, places, recordOf}
+use Rattle.capture.specs.Record.{mark, begins, hopLimit, packetLen, recordOf}
 
 both-true : (a b : Bool) → (a && b) ≡ true → (a ≡ true) × (b ≡ true)
 both-true true b e = (refl, e)
@@ -40,13 +40,13 @@ same-begins m s false p q = by (begins m s) refl
     by false e = refl
 
 -- s from the record's first byte on
-module _ (s : List ℕ) (at place : ℕ) where
-  pub none-left : length s ≡ 0 → recordOf s at place ≡ gives []
+module _ (s : List ℕ) (place : ℕ) where
+  pub none-left : length s ≡ 0 → recordOf s place ≡ gives []
   unfolding recordOf
   none-left h = simp (eq-eqb (length s) 0 h)
 
   module _ (some : 1 ≤ length s) where
-    pub one-left : length s < 2 → recordOf s at place ≡ refuses 14 (place ∷ [])
+    pub one-left : length s < 2 → recordOf s place ≡ refuses 14 (place ∷ [])
     unfolding recordOf
     one-left h = simp (ne-eqb (length s) 0 (λ e. omega arith), lt-ltb _ _ h)
 
@@ -54,25 +54,25 @@ module _ (s : List ℕ) (at place : ℕ) where
     not-none : eqb (length s) 0 ≡ false
     not-none = ne-eqb (length s) 0 (λ e. omega arith)
 
-    pub not-marked : begins mark s ≡ false → recordOf s at place ≡ refuses 12 (place ∷ [])
+    pub not-marked : begins mark s ≡ false → recordOf s place ≡ refuses 12 (place ∷ [])
     unfolding recordOf
     not-marked m = simp (not-none, le-ltb _ _ two, m)
 
     module _ (m : begins mark s ≡ true) where
-      pub head-cut : length s < 37 → recordOf s at place ≡ refuses 14 (place ∷ [])
+      pub head-cut : length s < 37 → recordOf s place ≡ refuses 14 (place ∷ [])
       unfolding recordOf
       head-cut h = simp (not-none, le-ltb _ _ two, m, lt-ltb _ _ h)
 
       module _ (head : 37 ≤ length s) where
-        pub too-long : 2048 < packetLen s → recordOf s at place ≡ refuses 13 (packetLen s ∷ [])
+        pub too-long : 2048 < packetLen s → recordOf s place ≡ refuses 13 (packetLen s ∷ [])
         unfolding recordOf
         too-long h = simp (not-none, le-ltb _ _ two, m, le-ltb _ _ head, lt-ltb _ _ h)
 
         module _ (few : packetLen s ≤ 2048) where
-          pub body-cut : length s - 37 < packetLen s → recordOf s at place ≡ refuses 14 (place ∷ [])
+          pub body-cut : length s - 37 < packetLen s → recordOf s place ≡ refuses 14 (place ∷ [])
           unfolding recordOf
           body-cut h = simp (not-none, le-ltb _ _ two, m, le-ltb _ _ head, le-ltb _ _ few, lt-ltb _ _ h)
 
-          pub whole : packetLen s ≤ length s - 37 → recordOf s at place ≡ gives (places (hopLimit s) (packetLen s) at)
+          pub whole : packetLen s ≤ length s - 37 → recordOf s place ≡ gives (hopLimit s ∷ packetLen s ∷ [])
           unfolding recordOf
           whole h = simp (not-none, le-ltb _ _ two, m, le-ltb _ _ head, le-ltb _ _ few, le-ltb _ _ h)

@@ -6,21 +6,22 @@ use mathlib.Core.Path.{_≡_, refl, sym, _∙_}
 use mathlib.Core.Bool.{true, false, false≢true}
 use mathlib.Core.List.{List, [], _∷_, _++_}
 use native.Mathlib.Omega.{arith}
-use lib.ListN.{length, length-append, List·getD-append}
+use lib.ListN.{length, take, drop, length-append, length-drop, List·getD-append}
+use lib.Seq.{take-append-le, drop-append-le}
 use Rattle.paper.specs.Paper.{Paper, gives}
-use Rattle.capture.specs.Record.{mark, begins, hopLimit, packetLen, places, recordOf}
-use Rattle.capture.specs.Capture.{isRecord, settled, recordLen}
+use Rattle.capture.specs.Record.{mark, begins, hopLimit, source, destination, packet, packetLen, recordOf, isRecord}
+use Rattle.capture.specs.Capture.{settled, recordLen}
 use Rattle.capture.proofs.Judged.{not-marked, too-long, whole}
 use Rattle.capture.proofs.Seen.{Seen, ended, cut, unmarked, long, found, seen}
 
--- what an answer of six values says
-pub record Found (s : List ℕ) (at : ℕ) (p : Paper) : Type 0 where
+-- what the answer of a record says
+pub record Found (s : List ℕ) (p : Paper) : Type 0 where
   pub marked : begins mark s ≡ true
   pub few : packetLen s ≤ 2048
   pub fits : recordLen s ≤ length s
-  pub told : p ≡ gives (places (hopLimit s) (packetLen s) at)
+  pub told : p ≡ gives (hopLimit s ∷ packetLen s ∷ [])
 
-found-by : {s : List ℕ} {at place : ℕ} {p : Paper} → Seen s at place p → isRecord p ≡ true → Found s at p
+found-by : {s : List ℕ} {place : ℕ} {p : Paper} → Seen s place p → isRecord p ≡ true → Found s p
 found-by (ended h) e = absurd (false≢true e)
 found-by (cut h k) e = absurd (false≢true e)
 found-by (unmarked h k) e = absurd (false≢true e)
@@ -28,7 +29,7 @@ found-by (long h m l) e = absurd (false≢true e)
 found-by (found h m l k) e = record { marked = m; few = l; fits = omega arith; told = refl }
 
 -- an answer that more bytes may change says that there are few
-few-by : {s : List ℕ} {at place : ℕ} {p : Paper} → Seen s at place p → settled p ≡ false → length s ≤ 2084
+few-by : {s : List ℕ} {place : ℕ} {p : Paper} → Seen s place p → settled p ≡ false → length s ≤ 2084
 few-by (ended h) e = omega arith
 few-by (cut h k) e = k
 few-by (unmarked h k) e = absurd (false≢true (sym e))
@@ -47,30 +48,49 @@ begins-more (a ∷ m) (b ∷ s) t h = rw (begins-more m s t (omega arith))
 pub same-len : (s t : List ℕ) → 37 ≤ length s → packetLen (s ++ t) ≡ packetLen s
 same-len s t h = rw (List·getD-append s t 0 35 (omega arith), List·getD-append s t 0 36 (omega arith))
 
-module _ (s t : List ℕ) (at place : ℕ) where
+-- and the same parts
+pub record SameParts (s t : List ℕ) : Type 0 where
+  pub hop : hopLimit (s ++ t) ≡ hopLimit s
+  pub from : source (s ++ t) ≡ source s
+  pub to : destination (s ++ t) ≡ destination s
+  pub body : packet (s ++ t) ≡ packet s
+
+part-of : (s t : List ℕ) (at n : ℕ) → at + n ≤ length s → take n (drop at (s ++ t)) ≡ take n (drop at s)
+part-of s t at n h = rw (drop-append-le at s t (omega arith)) (take-append-le n (drop at s) t (simp length-drop (omega arith)))
+
+pub same-parts : (s t : List ℕ) → recordLen s ≤ length s → SameParts s t
+same-parts s t h =
+    record {
+      hop = List·getD-append s t 0 2 (omega arith);
+      from = part-of s t 3 16 (omega arith);
+      to = part-of s t 19 16 (omega arith);
+      body = rw (same-len s t (omega arith)) (part-of s t 37 (packetLen s) h);
+    }
+
+module _ (s t : List ℕ) (place : ℕ) where
   longer : (n : ℕ) → n ≤ length s → n ≤ length (s ++ t)
   longer n h = simp length-append (omega arith)
 
-  stable-by : {p : Paper} → Seen s at place p → settled p ≡ true → recordOf (s ++ t) at place ≡ p
+  stable-by : {p : Paper} → Seen s place p → settled p ≡ true → recordOf (s ++ t) place ≡ p
   stable-by (ended h) e = absurd (false≢true e)
   stable-by (cut h k) e = absurd (false≢true e)
-  stable-by (unmarked h m) e = not-marked (s ++ t) at place (longer 2 h) (begins-more mark s t h ∙ m)
+  stable-by (unmarked h m) e = not-marked (s ++ t) place (longer 2 h) (begins-more mark s t h ∙ m)
   stable-by (long h m l) e =
-      too-long (s ++ t) at place (longer 2 (omega arith)) (begins-more mark s t (omega arith) ∙ m) (longer 37 h) (rw (same-len s t h) l)
+      too-long (s ++ t) place (longer 2 (omega arith)) (begins-more mark s t (omega arith) ∙ m) (longer 37 h) (rw (same-len s t h) l)
       ∙ rw (same-len s t h)
   stable-by (found h m l k) e =
       let n = longer (37 + packetLen s) (omega arith) in
-      whole (s ++ t) at place (longer 2 (omega arith)) (begins-more mark s t (omega arith) ∙ m) (longer 37 h) (rw (same-len s t h) l) (rw (same-len s t h) (omega arith))
+      whole (s ++ t) place (longer 2 (omega arith)) (begins-more mark s t (omega arith) ∙ m) (longer 37 h) (rw (same-len s t h) l) (rw (same-len s t h) (omega arith))
       ∙ rw (same-len s t h, List·getD-append s t 0 2 (omega arith))
 
   -- what a piece of a capture says of a record, 12 and 13, the whole capture says
-  pub stable : settled (recordOf s at place) ≡ true → recordOf (s ++ t) at place ≡ recordOf s at place
-  stable = stable-by (seen s at place)
+  pub stable : settled (recordOf s place) ≡ true → recordOf (s ++ t) place ≡ recordOf s place
+  stable = stable-by (seen s place)
 
-module _ (s : List ℕ) (at place : ℕ) where
-  pub is-found : isRecord (recordOf s at place) ≡ true → Found s at (recordOf s at place)
-  is-found = found-by (seen s at place)
+module _ (s : List ℕ) (place : ℕ) where
+  pub is-found : isRecord (recordOf s place) ≡ true → Found s (recordOf s place)
+  is-found = found-by (seen s place)
 
   -- bytes that end before or inside a record are fewer than the longest one has
-  pub more-short : settled (recordOf s at place) ≡ false → length s ≤ 2084
-  more-short = few-by (seen s at place)
+  pub more-short : settled (recordOf s place) ≡ false → length s ≤ 2084
+  more-short = few-by (seen s place)

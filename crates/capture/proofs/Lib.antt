@@ -6,3 +6,4 @@ pub mod Seen
 pub mod Laws
 pub mod Whole
 pub mod Back
+pub mod Calls

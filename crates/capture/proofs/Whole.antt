@@ -7,8 +7,8 @@ use mathlib.Core.List.{List, [], _∷_, _++_, append-assoc}
 use native.Mathlib.Omega.{arith}
 use lib.ListN.{length, take, drop, length-drop, take-append-drop}
 use lib.Seq.{length-take-le, take-append-le, drop-append-le}
-use Rattle.capture.specs.Record.{recordOf}
-use Rattle.capture.specs.Capture.{Item, isRecord, recordLen, follow, stopsAt, captureBy, captureFrom, Touch, allBytes}
+use Rattle.capture.specs.Record.{recordOf, isRecord}
+use Rattle.capture.specs.Capture.{Item, recordLen, follow, stopsAt, captureBy, captureFrom, Touch, allBytes}
 use Rattle.capture.proofs.Judged.{none-left}
 use Rattle.capture.proofs.Laws.{is-found, same-len, stable}
 
@@ -16,14 +16,14 @@ abbrev pub first : ℕ → List ℕ → List Item
 first place s = record { place = place; bytes = take (recordLen s) s } ∷ []
 
 -- what is left after a record is less
-shrinks : (n place : ℕ) (s : List ℕ) → length s ≤ suc n → isRecord (recordOf s 0 place) ≡ true → length (drop (recordLen s) s) ≤ n
-shrinks n place s h e = let f = is-found s 0 place e in simp length-drop (omega (arith, f .fits))
+shrinks : (n place : ℕ) (s : List ℕ) → length s ≤ suc n → isRecord (recordOf s place) ≡ true → length (drop (recordLen s) s) ≤ n
+shrinks n place s h e = let f = is-found s place e in simp length-drop (omega (arith, f .fits))
 
-none : (place : ℕ) (s : List ℕ) → length s ≤ 0 → isRecord (recordOf s 0 place) ≡ false
-none place s h = rw (none-left s 0 place (omega arith))
+none : (place : ℕ) (s : List ℕ) → length s ≤ 0 → isRecord (recordOf s place) ≡ false
+none place s h = rw (none-left s place (omega arith))
 
 -- the same after the first record is the same
-alike : (n m place : ℕ) (s : List ℕ) (b : Bool) → isRecord (recordOf s 0 place) ≡ b
+alike : (n m place : ℕ) (s : List ℕ) (b : Bool) → isRecord (recordOf s place) ≡ b
     → (b ≡ true → captureBy n (place + recordLen s) (drop (recordLen s) s) ≡ captureBy m (place + recordLen s) (drop (recordLen s) s))
     → captureBy (suc n) place s ≡ captureBy (suc m) place s
 unfolding captureBy
@@ -36,31 +36,31 @@ enough zero zero place s h i = refl
 enough zero (suc m) place s h i = simp (none place s h)
 enough (suc n) zero place s h i = simp (none place s i)
 enough (suc n) (suc m) place s h i =
-    alike n m place s (isRecord (recordOf s 0 place)) refl
+    alike n m place s (isRecord (recordOf s place)) refl
     (λ e. enough n m (place + recordLen s) (drop (recordLen s) s) (shrinks n place s h e) (shrinks m place s i e))
 
 -- a record, and the capture after it
-pub goes-on : (place : ℕ) (s : List ℕ) → isRecord (recordOf s 0 place) ≡ true
+pub goes-on : (place : ℕ) (s : List ℕ) → isRecord (recordOf s place) ≡ true
     → captureFrom place s ≡ follow (first place s) (captureFrom (place + recordLen s) (drop (recordLen s) s))
 unfolding captureFrom captureBy
 goes-on place s e =
     enough (length s) (suc (length s)) place s (omega arith) (omega arith)
     ∙ simp (e, enough (length s) (length (drop (recordLen s) s)) (place + recordLen s) (drop (recordLen s) s) (simp length-drop (omega arith)) (omega arith))
 
-pub stops : (place : ℕ) (s : List ℕ) → isRecord (recordOf s 0 place) ≡ false → captureFrom place s ≡ stopsAt place s
+pub stops : (place : ℕ) (s : List ℕ) → isRecord (recordOf s place) ≡ false → captureFrom place s ≡ stopsAt place s
 unfolding captureFrom captureBy
 stops place s e = enough (length s) (suc (length s)) place s (omega arith) (omega arith) ∙ simp e
 
 -- what is shown of the end, and of a capture from what is shown after its first record, holds of each
 pub along : (P : ℕ → List ℕ → Type 0)
-    → ((place : ℕ) (s : List ℕ) → isRecord (recordOf s 0 place) ≡ false → P place s)
-    → ((place : ℕ) (s : List ℕ) → isRecord (recordOf s 0 place) ≡ true → P (place + recordLen s) (drop (recordLen s) s) → P place s)
+    → ((place : ℕ) (s : List ℕ) → isRecord (recordOf s place) ≡ false → P place s)
+    → ((place : ℕ) (s : List ℕ) → isRecord (recordOf s place) ≡ true → P (place + recordLen s) (drop (recordLen s) s) → P place s)
     → (n place : ℕ) (s : List ℕ) → length s ≤ n → P place s
 along P end more zero place s h = end place s (none place s h)
 along P end more (suc n) place s h =
-    by (isRecord (recordOf s 0 place)) refl (λ e. along P end more n (place + recordLen s) (drop (recordLen s) s) (shrinks n place s h e))
+    by (isRecord (recordOf s place)) refl (λ e. along P end more n (place + recordLen s) (drop (recordLen s) s) (shrinks n place s h e))
   where
-    by : (b : Bool) → isRecord (recordOf s 0 place) ≡ b → (isRecord (recordOf s 0 place) ≡ true → P (place + recordLen s) (drop (recordLen s) s)) → P place s
+    by : (b : Bool) → isRecord (recordOf s place) ≡ b → (isRecord (recordOf s place) ≡ true → P (place + recordLen s) (drop (recordLen s) s)) → P place s
     by true e k = more place s e (k e)
     by false e k = end place s e
 
@@ -71,11 +71,11 @@ Touches place s = let c = captureFrom place s in Touch place (c .records) (c .pl
 pub touch : (place : ℕ) (s : List ℕ) → Touches place s
 touch place s = along Touches end more (length s) place s (omega arith)
   where
-    end : (p : ℕ) (l : List ℕ) → isRecord (recordOf l 0 p) ≡ false → Touches p l
+    end : (p : ℕ) (l : List ℕ) → isRecord (recordOf l p) ≡ false → Touches p l
     end p l e = rw (stops p l e)
 
-    more : (p : ℕ) (l : List ℕ) → isRecord (recordOf l 0 p) ≡ true → Touches (p + recordLen l) (drop (recordLen l) l) → Touches p l
-    more p l e k = rw (goes-on p l e, length-take-le (recordLen l) l (is-found l 0 p e .fits)) (refl, k)
+    more : (p : ℕ) (l : List ℕ) → isRecord (recordOf l p) ≡ true → Touches (p + recordLen l) (drop (recordLen l) l) → Touches p l
+    more p l e k = rw (goes-on p l e, length-take-le (recordLen l) l (is-found l p e .fits)) (refl, k)
 
 abbrev AllThere : ℕ → List ℕ → Type 0
 AllThere place s = let c = captureFrom place s in allBytes (c .records) ++ c .rest ≡ s
@@ -84,10 +84,10 @@ AllThere place s = let c = captureFrom place s in allBytes (c .records) ++ c .re
 pub all-there : (place : ℕ) (s : List ℕ) → AllThere place s
 all-there place s = along AllThere end more (length s) place s (omega arith)
   where
-    end : (p : ℕ) (l : List ℕ) → isRecord (recordOf l 0 p) ≡ false → AllThere p l
+    end : (p : ℕ) (l : List ℕ) → isRecord (recordOf l p) ≡ false → AllThere p l
     end p l e = rw (stops p l e)
 
-    more : (p : ℕ) (l : List ℕ) → isRecord (recordOf l 0 p) ≡ true → AllThere (p + recordLen l) (drop (recordLen l) l) → AllThere p l
+    more : (p : ℕ) (l : List ℕ) → isRecord (recordOf l p) ≡ true → AllThere (p + recordLen l) (drop (recordLen l) l) → AllThere p l
     more p l e k = rw (goes-on p l e, append-assoc, k) (take-append-drop (recordLen l) l)
 
 abbrev Joins : List ℕ → ℕ → List ℕ → Type 0
@@ -97,11 +97,11 @@ Joins t place s = let c = captureFrom place s in captureFrom place (s ++ t) ≡ 
 pub joined : (place : ℕ) (s t : List ℕ) → Joins t place s
 joined place s t = along (Joins t) end more (length s) place s (omega arith)
   where
-    end : (p : ℕ) (l : List ℕ) → isRecord (recordOf l 0 p) ≡ false → Joins t p l
+    end : (p : ℕ) (l : List ℕ) → isRecord (recordOf l p) ≡ false → Joins t p l
     end p l e = rw (stops p l e)
 
-    more : (p : ℕ) (l : List ℕ) → isRecord (recordOf l 0 p) ≡ true → Joins t (p + recordLen l) (drop (recordLen l) l) → Joins t p l
+    more : (p : ℕ) (l : List ℕ) → isRecord (recordOf l p) ≡ true → Joins t (p + recordLen l) (drop (recordLen l) l) → Joins t p l
     more p l e k =
-        let f = is-found l 0 p e in
-        goes-on p (l ++ t) (ap isRecord (stable l t 0 p (rw e)) ∙ e)
+        let f = is-found l p e in
+        goes-on p (l ++ t) (ap isRecord (stable l t p (rw e)) ∙ e)
         ∙ rw (same-len l t (omega (arith, f .fits)), take-append-le (recordLen l) l t (f .fits), drop-append-le (recordLen l) l t (f .fits), k, goes-on p l e)

@@ -7,7 +7,7 @@ use mathlib.Core.Path.{_≡_}
 use lib.Dec.{eqb}
 use lib.ListN.{length, take, drop}
 use Rattle.paper.specs.Paper.{Paper}
-use Rattle.capture.specs.Record.{packetLen, recordOf}
+use Rattle.capture.specs.Record.{packetLen, recordOf, isRecord}
 
 -- a record: the place of its first byte, and its bytes
 pub record Item : Type 0 where
@@ -21,10 +21,6 @@ pub record Capture : Type 0 where
   pub answer : Paper
   pub rest : List ℕ
 
--- of a record alone six values are told
-abbrev pub isRecord : Paper → Bool
-isRecord p = eqb (length (p .values)) 6
-
 -- an answer that more bytes cannot change: a record, 12 and 13; the end and 14 they can
 abbrev pub settled : Paper → Bool
 settled p = isRecord p || (eqb (p .number) 12 || eqb (p .number) 13)
@@ -37,14 +33,14 @@ abbrev pub follow : List Item → Capture → Capture
 follow is c = record { records = is ++ c .records; place = c .place; answer = c .answer; rest = c .rest }
 
 abbrev pub stopsAt : ℕ → List ℕ → Capture
-stopsAt place s = record { records = []; place = place; answer = recordOf s 0 place; rest = s }
+stopsAt place s = record { records = []; place = place; answer = recordOf s place; rest = s }
 
 -- at most n records, the first at a place
 unfoldable pub captureBy : ℕ → ℕ → List ℕ → Capture
 captureBy zero place s = stopsAt place s
 captureBy (suc n) place s =
     let more = follow (record { place = place; bytes = take (recordLen s) s } ∷ []) (captureBy n (place + recordLen s) (drop (recordLen s) s)) in
-    cond (isRecord (recordOf s 0 place)) more (stopsAt place s)
+    cond (isRecord (recordOf s place)) more (stopsAt place s)
 
 -- all records, the first at a place: no more than there are bytes
 unfoldable pub captureFrom : ℕ → List ℕ → Capture

@@ -36,21 +36,30 @@ packet s = take (packetLen s) (drop 37 s)
 unfoldable pub recordBytes : ℕ → List ℕ → List ℕ → List ℕ → List ℕ
 recordBytes hop src dst p = mark ++ (hop ∷ []) ++ src ++ dst ++ (length p / 256 ∷ length p % 256 ∷ []) ++ p
 
--- what is told of a record at a place: hop limit, the places of source, destination and packet, the packet's length, the next place
-abbrev pub places : ℕ → ℕ → ℕ → List ℕ
-places hop len at = hop ∷ (at + 3) ∷ (at + 19) ∷ (at + 37) ∷ len ∷ (at + 37 + len) ∷ []
-
--- What stands at a place, s being the bytes from there to the end of the capture. In document 01's order: mark (12; 14 if under
--- 2 bytes remain), 37-byte head (14), length (13), body (14). Where no byte remains the capture ends.
-unfoldable pub recordOf : List ℕ → ℕ → ℕ → Paper
-recordOf s at place =
+-- What stands at the head of s, the bytes from a place of the capture to its end. In document 01's order: mark (12; 14 if under
+-- 2 bytes remain), 37-byte head (14), length (13), body (14). Where no byte remains the capture ends. Told of a record: its hop limit
+-- and its packet's length.
+unfoldable pub recordOf : List ℕ → ℕ → Paper
+recordOf s place =
     cond (eqb (length s) 0) (gives [])
     (cond (ltb (length s) 2) (refuses 14 (place ∷ []))
     (cond (not (begins mark s)) (refuses 12 (place ∷ []))
     (cond (ltb (length s) 37) (refuses 14 (place ∷ []))
     (cond (ltb 2048 (packetLen s)) (refuses 13 (packetLen s ∷ []))
     (cond (ltb (length s - 37) (packetLen s)) (refuses 14 (place ∷ []))
-    (gives (places (hopLimit s) (packetLen s) at)))))))
+    (gives (hopLimit s ∷ packetLen s ∷ [])))))))
+
+-- of a record alone two values are told
+abbrev pub isRecord : Paper → Bool
+isRecord p = eqb (length (p .values)) 2
+
+-- and where its parts are, the record being at a place of some bytes: hop limit, places of source, destination and packet, the
+-- packet's length, the next place
+abbrev pub places : ℕ → ℕ → ℕ → List ℕ
+places at hop len = hop ∷ (at + 3) ∷ (at + 19) ∷ (at + 37) ∷ len ∷ (at + 37 + len) ∷ []
+
+abbrev pub placed : ℕ → Paper → Paper
+placed at p = cond (isRecord p) (gives (places at (getD (p .values) 0 0) (getD (p .values) 1 0))) p
 
 -- a place of some bytes, counted from the start of the capture, in 64 bits
 abbrev pub placeIn : ℕ → ℕ → ℕ
@@ -60,7 +69,7 @@ placeIn base at = (base + at) % 2 ^ 64
 unfoldable pub nextOf : List ℕ → ℕ → ℕ → Paper
 nextOf s at base =
     cond (ltb (length s) at) (refuses 14 (placeIn base at ∷ []))
-    (recordOf (drop at s) at (placeIn base at))
+    (placed at (recordOf (drop at s) (placeIn base at)))
 
 -- an answer that is given only where a record can hold the packet, else refusal 13
 unfoldable pub recorded : List ℕ → Paper → Paper

@@ -4,7 +4,7 @@ ghost use Prim.Native.Nat.{_+_, _*_, _≤_, _<_};
 ghost use lib.ListN.{length, take, drop};
 ghost use Rattle.lent.specs.Wrote.{Wrote};
 ghost use Rattle.lent.specs.Put.{paper, putOf, leaves};
-ghost use Rattle.capture.specs.Record.{recordBytes, recordOf, nextOf, recorded};
+ghost use Rattle.capture.specs.Record.{recordBytes, recordOf, placed, nextOf, recorded};
 ghost use Rattle.capture.specs.Paper.{nextPaper};
 use lent::Put;
 use refusal::Refusal;
@@ -45,7 +45,7 @@ pub fn next_record(capture: &[u8], at: usize, base: u64) -> Next
 // The record that `left` begins with.
 fn first_record(left: &[u8], at: usize, place: u64) -> Next
     requires { ⌜ at + length (now left) < 18446744073709551616 ⌝ }
-    ensures { λ r. ⌜ nextPaper r ≡ recordOf (now (left .entry)) at place ⌝ }
+    ensures { λ r. ⌜ nextPaper r ≡ placed at (recordOf (now (left .entry)) place) ⌝ }
 {
     if left.len() == 0 {
         return Next::End;

@@ -1,2 +1,4 @@
 pub mod Text
 pub mod Unique
+pub mod Whole
+pub mod Example

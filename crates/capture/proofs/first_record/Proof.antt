@@ -4,11 +4,11 @@ use denote.Ref.{now}
 use Prim.Native.Nat.{_≤_}
 use native.Mathlib.Omega.{arith}
 use mathlib.Core.Bool.{true}
-use mathlib.Core.Path.{_≡_, sym, _∙_}
+use mathlib.Core.Path.{_≡_, sym, _∙_, ap}
 use lib.Seq.{length-take-le}
 use lib.ListN.{length}
 use borrow.Author.Tests.{not-true, not-false}
-use Rattle.capture.specs.Record.{mark, begins}
+use Rattle.capture.specs.Record.{placed, mark, begins}
 use Rattle.capture.proofs.Judged.{same-begins, none-left, one-left, not-marked, head-cut, too-long, body-cut, whole}
 use borrow.Author.Needs.{needs}
 use Rattle.capture.proofs.first_record.Statement.{statement}
@@ -17,12 +17,12 @@ use Rattle.capture.proofs.first_record.Tie as tie
 returns : tie.Need-returns
 returns c =
     let a = c .before .before .args in
-    sym (none-left (now (a .left)) (a .at) (a .place) (c .if1 .taken))
+    ap (placed (a .at)) (sym (none-left (now (a .left)) (a .place) (c .if1 .taken)))
 
 returns-2 : tie.Need-returns-2
 returns-2 c =
     let a = c .before .before .before .args in
-    sym (one-left (now (a .left)) (a .at) (a .place) (omega arith) (c .if2 .taken))
+    ap (placed (a .at)) (sym (one-left (now (a .left)) (a .place) (omega arith) (c .if2 .taken)))
 
 slice-aggregate-same : tie.Need-slice-aggregate-same
 slice-aggregate-same c = sym (length-take-le _ (now (c .before .before .before .before .args .left)) (omega arith))
@@ -54,13 +54,13 @@ returns-3 c =
     let w = c .before in
     let b = w .before .before .before in
     let a = b .before .before .before .args in
-    sym (not-marked (now (a .left)) (a .at) (a .place) (b .if2 .left) (marks w ∙ not-true _ (c .if3 .taken)))
+    ap (placed (a .at)) (sym (not-marked (now (a .left)) (a .place) (b .if2 .left) (marks w ∙ not-true _ (c .if3 .taken))))
 
 returns-4 : tie.Need-returns-4
 returns-4 c =
     let g = c .before in
     let a = g .before .before .before .before .before .before .before .args in
-    sym (head-cut (now (a .left)) (a .at) (a .place) (good g .0) (good g .1) (c .if4 .taken))
+    ap (placed (a .at)) (sym (head-cut (now (a .left)) (a .place) (good g .0) (good g .1) (c .if4 .taken)))
 
 shared-slice-read-word : tie.Need-shared-slice-read-word
 shared-slice-read-word c = search needs
@@ -77,7 +77,7 @@ returns-5 c =
     let h = w .before .before .before in
     let g = h .before in
     let a = g .before .before .before .before .before .before .before .args in
-    rw (w .word .ensures) (sym (too-long (now (a .left)) (a .at) (a .place) (good g .0) (good g .1) (h .if4 .left) (rw (w .word .ensures) at (c .if5 .taken))))
+    rw (w .word .ensures) (ap (placed (a .at)) (sym (too-long (now (a .left)) (a .place) (good g .0) (good g .1) (h .if4 .left) (rw (w .word .ensures) at (c .if5 .taken)))))
 
 sub-if6 : tie.Need-sub-if6
 sub-if6 c = search needs
@@ -89,7 +89,7 @@ returns-6 c =
     let h = w .before .before .before in
     let g = h .before in
     let a = g .before .before .before .before .before .before .before .args in
-    sym (body-cut (now (a .left)) (a .at) (a .place) (good g .0) (good g .1) (h .if4 .left) (rw (w .word .ensures) at (i .if5 .left)) (rw (w .word .ensures) at (c .if6 .taken)))
+    ap (placed (a .at)) (sym (body-cut (now (a .left)) (a .place) (good g .0) (good g .1) (h .if4 .left) (rw (w .word .ensures) at (i .if5 .left)) (rw (w .word .ensures) at (c .if6 .taken))))
 
 shared-slice-read-t19 : tie.Need-shared-slice-read-t19
 shared-slice-read-t19 c = search needs
@@ -117,7 +117,7 @@ returns-7 c =
     let h = w .before .before .before in
     let g = h .before in
     let a = g .before .before .before .before .before .before .before .args in
-    rw (w .word .ensures) (sym (whole (now (a .left)) (a .at) (a .place) (good g .0) (good g .1) (h .if4 .left) (rw (w .word .ensures) at (i .if5 .left)) (rw (w .word .ensures) at (k .if6 .left))))
+    rw (w .word .ensures) (ap (placed (a .at)) (sym (whole (now (a .left)) (a .place) (good g .0) (good g .1) (h .if4 .left) (rw (w .word .ensures) at (i .if5 .left)) (rw (w .word .ensures) at (k .if6 .left)))))
 
 pub first-record-spec : {M : Type 1} → statement M
 first-record-spec =
