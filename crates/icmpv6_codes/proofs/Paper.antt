@@ -1,0 +1,89 @@
+-- The numbers of the codes lose nothing: each enum can be taken back from them.
+-- Assumes nothing.
+use Prim.Native.Nat.{ℕ}
+use mathlib.Core.Bool.{cond}
+use mathlib.Core.Path.{_≡_, refl, ap}
+use mathlib.Core.List.{List, [], _∷_}
+use lib.Dec.{eqb}
+use Rattle.paper.proofs.Lossless.{lossless}
+use Rattle.icmpv6_codes.specs.declared.dest_unreachable_code.DestUnreachableCode.{DestUnreachableCode}
+use Rattle.icmpv6_codes.specs.declared.dest_unreachable_code.DestUnreachableCode.the-variants.{NoRoute, Prohibited, BeyondScope, Address, Port, SourceAddressFailedPolicy, RejectRoute}
+use Rattle.icmpv6_codes.specs.declared.dest_unreachable_code.DestUnreachableListing.{DestUnreachableListing}
+use Rattle.icmpv6_codes.specs.declared.dest_unreachable_code.DestUnreachableListing.the-variants as dest
+use Rattle.icmpv6_codes.specs.declared.time_exceeded_code.TimeExceededCode.{TimeExceededCode}
+use Rattle.icmpv6_codes.specs.declared.time_exceeded_code.TimeExceededCode.the-variants.{HopLimitExceeded, FragmentReassemblyTimeExceeded}
+use Rattle.icmpv6_codes.specs.declared.time_exceeded_code.TimeExceededListing.{TimeExceededListing}
+use Rattle.icmpv6_codes.specs.declared.time_exceeded_code.TimeExceededListing.the-variants as time
+use Rattle.icmpv6_codes.specs.declared.parameter_problem_code.ParameterProblemCode.{ParameterProblemCode}
+use Rattle.icmpv6_codes.specs.declared.parameter_problem_code.ParameterProblemCode.the-variants.{ErroneousHeaderField, UnrecognizedNextHeader, UnrecognizedIpv6Option, FirstFragmentIncompleteHeaderChain, SrUpperLayerHeaderError, UnrecognizedNextHeaderByIntermediateNode, ExtensionHeaderTooBig, ExtensionHeaderChainTooLong, TooManyExtensionHeaders, TooManyOptionsInExtensionHeader, OptionTooBig}
+use Rattle.icmpv6_codes.specs.declared.parameter_problem_code.ParameterProblemListing.{ParameterProblemListing}
+use Rattle.icmpv6_codes.specs.declared.parameter_problem_code.ParameterProblemListing.the-variants as problem
+use Rattle.icmpv6_codes.specs.Codes.{destNumber, destTold, timeNumber, timeTold, problemNumber, problemTold}
+
+abbrev pub destOf : ℕ → DestUnreachableCode
+destOf n = cond (eqb n 0) NoRoute (cond (eqb n 1) Prohibited (cond (eqb n 2) BeyondScope (cond (eqb n 3) Address (cond (eqb n 4) Port (cond (eqb n 5) SourceAddressFailedPolicy (RejectRoute))))))
+
+pub dest-back : (c : DestUnreachableCode) → destOf (destNumber c) ≡ c
+dest-back NoRoute = refl
+dest-back Prohibited = refl
+dest-back BeyondScope = refl
+dest-back Address = refl
+dest-back Port = refl
+dest-back SourceAddressFailedPolicy = refl
+dest-back RejectRoute = refl
+
+abbrev destListing : List ℕ → DestUnreachableListing
+destListing [] = dest.NotListed
+destListing (n ∷ l) = dest.Listed (destOf n)
+
+dest-told-back : (l : DestUnreachableListing) → destListing (destTold l .values) ≡ l
+dest-told-back (dest.Listed c) = ap dest.Listed (dest-back c)
+dest-told-back dest.NotListed = refl
+
+pub dest-told-lossless : (x y : DestUnreachableListing) → destTold x ≡ destTold y → x ≡ y
+dest-told-lossless = lossless destTold (λ p. destListing (p .values)) dest-told-back
+
+abbrev pub timeOf : ℕ → TimeExceededCode
+timeOf n = cond (eqb n 0) HopLimitExceeded (FragmentReassemblyTimeExceeded)
+
+pub time-back : (c : TimeExceededCode) → timeOf (timeNumber c) ≡ c
+time-back HopLimitExceeded = refl
+time-back FragmentReassemblyTimeExceeded = refl
+
+abbrev timeListing : List ℕ → TimeExceededListing
+timeListing [] = time.NotListed
+timeListing (n ∷ l) = time.Listed (timeOf n)
+
+time-told-back : (l : TimeExceededListing) → timeListing (timeTold l .values) ≡ l
+time-told-back (time.Listed c) = ap time.Listed (time-back c)
+time-told-back time.NotListed = refl
+
+pub time-told-lossless : (x y : TimeExceededListing) → timeTold x ≡ timeTold y → x ≡ y
+time-told-lossless = lossless timeTold (λ p. timeListing (p .values)) time-told-back
+
+abbrev pub problemOf : ℕ → ParameterProblemCode
+problemOf n = cond (eqb n 0) ErroneousHeaderField (cond (eqb n 1) UnrecognizedNextHeader (cond (eqb n 2) UnrecognizedIpv6Option (cond (eqb n 3) FirstFragmentIncompleteHeaderChain (cond (eqb n 4) SrUpperLayerHeaderError (cond (eqb n 5) UnrecognizedNextHeaderByIntermediateNode (cond (eqb n 6) ExtensionHeaderTooBig (cond (eqb n 7) ExtensionHeaderChainTooLong (cond (eqb n 8) TooManyExtensionHeaders (cond (eqb n 9) TooManyOptionsInExtensionHeader (OptionTooBig))))))))))
+
+pub problem-back : (c : ParameterProblemCode) → problemOf (problemNumber c) ≡ c
+problem-back ErroneousHeaderField = refl
+problem-back UnrecognizedNextHeader = refl
+problem-back UnrecognizedIpv6Option = refl
+problem-back FirstFragmentIncompleteHeaderChain = refl
+problem-back SrUpperLayerHeaderError = refl
+problem-back UnrecognizedNextHeaderByIntermediateNode = refl
+problem-back ExtensionHeaderTooBig = refl
+problem-back ExtensionHeaderChainTooLong = refl
+problem-back TooManyExtensionHeaders = refl
+problem-back TooManyOptionsInExtensionHeader = refl
+problem-back OptionTooBig = refl
+
+abbrev problemListing : List ℕ → ParameterProblemListing
+problemListing [] = problem.NotListed
+problemListing (n ∷ l) = problem.Listed (problemOf n)
+
+problem-told-back : (l : ParameterProblemListing) → problemListing (problemTold l .values) ≡ l
+problem-told-back (problem.Listed c) = ap problem.Listed (problem-back c)
+problem-told-back problem.NotListed = refl
+
+pub problem-told-lossless : (x y : ParameterProblemListing) → problemTold x ≡ problemTold y → x ≡ y
+problem-told-lossless = lossless problemTold (λ p. problemListing (p .values)) problem-told-back

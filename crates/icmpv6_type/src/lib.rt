@@ -1,0 +1,160 @@
+// The value that the first eight bytes of an ICMPv6 packet stand for, without the checksum.
+ghost use mathlib.Core.Path.{_≡_};
+ghost use Rattle.icmpv6_type.specs.Value.{typeTold, typeOf, typeNumber, codeNumber, fieldBytes};
+use icmpv6_codes::dest_unreachable_code::DestUnreachableCode;
+use icmpv6_codes::dest_unreachable_code::DestUnreachableListing;
+use icmpv6_codes::parameter_problem_code::ParameterProblemCode;
+use icmpv6_codes::parameter_problem_code::ParameterProblemListing;
+use icmpv6_codes::time_exceeded_code::TimeExceededCode;
+use icmpv6_codes::time_exceeded_code::TimeExceededListing;
+use icmpv6_headers::icmp_echo_header::IcmpEchoHeader;
+use icmpv6_headers::neighbor_advertisement_header::NeighborAdvertisementHeader;
+use icmpv6_headers::router_advertisement_header::RouterAdvertisementHeader;
+
+// A parameter problem's code, and the place of the trouble in the packet that caused it.
+pub struct ParameterProblemHeader {
+    pub code: ParameterProblemCode,
+    pub pointer: u32,
+}
+
+// Unknown keeps type, code and bytes 4 to 7, these as one number, high byte first.
+pub enum Icmpv6Type {
+    Unknown {
+        type_u8: u8,
+        code_u8: u8,
+        bytes5to8: u32,
+    },
+    DestinationUnreachable(DestUnreachableCode),
+    PacketTooBig {
+        mtu: u32,
+    },
+    TimeExceeded(TimeExceededCode),
+    ParameterProblem(ParameterProblemHeader),
+    EchoRequest(IcmpEchoHeader),
+    EchoReply(IcmpEchoHeader),
+    RouterSolicitation,
+    RouterAdvertisement(RouterAdvertisementHeader),
+    NeighborSolicitation,
+    NeighborAdvertisement(NeighborAdvertisementHeader),
+    Redirect,
+}
+
+impl Icmpv6Type {
+    // The value of a type, a code and bytes 4 to 7; a pair that the table does not have is Unknown.
+    pub fn from_parts(type_u8: u8, code_u8: u8, bytes5to8: [u8; 4]) -> Icmpv6Type
+        ensures { λ r. ⌜ typeTold r ≡ typeOf «type_u8» «code_u8» bytes5to8 ⌝ }
+    {
+        let all = wire::u32_from_be(bytes5to8[0], bytes5to8[1], bytes5to8[2], bytes5to8[3]);
+        let other = Icmpv6Type::Unknown {
+            type_u8,
+            code_u8,
+            bytes5to8: all,
+        };
+        if !message_table::is_known(type_u8, code_u8) {
+            return other;
+        }
+        match type_u8 {
+            1 => match DestUnreachableCode::from_u8(code_u8) {
+                DestUnreachableListing::Listed(code) => Icmpv6Type::DestinationUnreachable(code),
+                DestUnreachableListing::NotListed => other,
+            },
+            2 => Icmpv6Type::PacketTooBig { mtu: all },
+            3 => match TimeExceededCode::from_u8(code_u8) {
+                TimeExceededListing::Listed(code) => Icmpv6Type::TimeExceeded(code),
+                TimeExceededListing::NotListed => other,
+            },
+            4 => match ParameterProblemCode::from_u8(code_u8) {
+                ParameterProblemListing::Listed(code) =>
+                    Icmpv6Type::ParameterProblem(ParameterProblemHeader { code, pointer: all }),
+                ParameterProblemListing::NotListed => other,
+            },
+            128 => Icmpv6Type::EchoRequest(IcmpEchoHeader::from_bytes(bytes5to8)),
+            129 => Icmpv6Type::EchoReply(IcmpEchoHeader::from_bytes(bytes5to8)),
+            133 => Icmpv6Type::RouterSolicitation,
+            134 => Icmpv6Type::RouterAdvertisement(RouterAdvertisementHeader::from_bytes(
+                bytes5to8,
+            )),
+            135 => Icmpv6Type::NeighborSolicitation,
+            136 => Icmpv6Type::NeighborAdvertisement(NeighborAdvertisementHeader::from_bytes(
+                bytes5to8,
+            )),
+            137 => Icmpv6Type::Redirect,
+            _ => other,
+        }
+    }
+
+    // The first byte of the head.
+    pub fn type_u8(self) -> u8
+        ensures { λ r. ⌜ r ≡ typeNumber self ⌝ }
+    {
+        match self {
+            Icmpv6Type::Unknown {
+                type_u8,
+                code_u8: _,
+                bytes5to8: _,
+            } => type_u8,
+            Icmpv6Type::DestinationUnreachable(_) => 1,
+            Icmpv6Type::PacketTooBig { mtu: _ } => 2,
+            Icmpv6Type::TimeExceeded(_) => 3,
+            Icmpv6Type::ParameterProblem(_) => 4,
+            Icmpv6Type::EchoRequest(_) => 128,
+            Icmpv6Type::EchoReply(_) => 129,
+            Icmpv6Type::RouterSolicitation => 133,
+            Icmpv6Type::RouterAdvertisement(_) => 134,
+            Icmpv6Type::NeighborSolicitation => 135,
+            Icmpv6Type::NeighborAdvertisement(_) => 136,
+            Icmpv6Type::Redirect => 137,
+        }
+    }
+
+    // The second byte of the head.
+    pub fn code_u8(self) -> u8
+        ensures { λ r. ⌜ r ≡ codeNumber self ⌝ }
+    {
+        match self {
+            Icmpv6Type::Unknown {
+                type_u8: _,
+                code_u8,
+                bytes5to8: _,
+            } => code_u8,
+            Icmpv6Type::DestinationUnreachable(code) => code.code_u8(),
+            Icmpv6Type::TimeExceeded(code) => code.code_u8(),
+            Icmpv6Type::ParameterProblem(header) => {
+                let code = header.code;
+                code.code_u8()
+            }
+            Icmpv6Type::PacketTooBig { mtu: _ } => 0,
+            Icmpv6Type::EchoRequest(_) => 0,
+            Icmpv6Type::EchoReply(_) => 0,
+            Icmpv6Type::RouterSolicitation => 0,
+            Icmpv6Type::RouterAdvertisement(_) => 0,
+            Icmpv6Type::NeighborSolicitation => 0,
+            Icmpv6Type::NeighborAdvertisement(_) => 0,
+            Icmpv6Type::Redirect => 0,
+        }
+    }
+
+    // Bytes 4 to 7 of the head as they are written: what is reserved is 0.
+    pub fn bytes5to8(self) -> [u8; 4]
+        ensures { λ r. ⌜ r ≡ fieldBytes self ⌝ }
+    {
+        match self {
+            Icmpv6Type::Unknown {
+                type_u8: _,
+                code_u8: _,
+                bytes5to8,
+            } => wire::u32_to_be(bytes5to8),
+            Icmpv6Type::PacketTooBig { mtu } => wire::u32_to_be(mtu),
+            Icmpv6Type::ParameterProblem(header) => wire::u32_to_be(header.pointer),
+            Icmpv6Type::EchoRequest(echo) => echo.to_bytes(),
+            Icmpv6Type::EchoReply(echo) => echo.to_bytes(),
+            Icmpv6Type::RouterAdvertisement(header) => header.to_bytes(),
+            Icmpv6Type::NeighborAdvertisement(header) => header.to_bytes(),
+            Icmpv6Type::DestinationUnreachable(_) => [0, 0, 0, 0],
+            Icmpv6Type::TimeExceeded(_) => [0, 0, 0, 0],
+            Icmpv6Type::RouterSolicitation => [0, 0, 0, 0],
+            Icmpv6Type::NeighborSolicitation => [0, 0, 0, 0],
+            Icmpv6Type::Redirect => [0, 0, 0, 0],
+        }
+    }
+}

@@ -1,0 +1,13 @@
+-- The bits of a number, and a number with its low bits cleared: how reserved bits are dropped.
+-- Assumes nothing.
+use Prim.Native.Nat.{ℕ, zero, suc, _*_, _/_, _%_}
+
+-- bit i of x, bit 0 the lowest
+abbrev pub bit : ℕ → ℕ → ℕ
+bit x zero = x % 2
+bit x (suc i) = bit (x / 2) i
+
+-- x with its n lowest bits 0
+abbrev pub clear : ℕ → ℕ → ℕ
+clear zero x = x
+clear (suc n) x = 2 * clear n (x / 2)

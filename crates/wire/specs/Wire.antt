@@ -1,0 +1,26 @@
+-- Network byte order (RFC 8200, section 2 names it so; RFC 4861 draws every field so): the high byte first. Flags by their weight.
+-- Assumes nothing.
+use Prim.Native.Nat.{ℕ, _+_, _*_, _/_, _%_}
+use mathlib.Core.Bool.{Bool, cond}
+use mathlib.Core.List.{List, [], _∷_}
+use lib.Dec.{eqb}
+
+abbrev pub word16 : ℕ → ℕ → ℕ
+word16 a b = 256 * a + b
+
+abbrev pub word32 : ℕ → ℕ → ℕ → ℕ → ℕ
+word32 a b c d = 16777216 * a + 65536 * b + 256 * c + d
+
+abbrev pub bytes16 : ℕ → List ℕ
+bytes16 x = x / 256 % 256 ∷ x % 256 ∷ []
+
+abbrev pub bytes32 : ℕ → List ℕ
+bytes32 x = x / 16777216 % 256 ∷ x / 65536 % 256 ∷ x / 256 % 256 ∷ x % 256 ∷ []
+
+-- whether the flag of weight w, a power of two, is set in x
+abbrev pub hasFlag : ℕ → ℕ → Bool
+hasFlag x w = eqb (x / w % 2) 1
+
+-- the weight of a flag, where it is set
+abbrev pub flagOf : Bool → ℕ → ℕ
+flagOf b w = cond b w 0
