@@ -1,11 +1,12 @@
 -- The numbers of the codes lose nothing: each enum can be taken back from them.
 -- Assumes nothing.
-use Prim.Native.Nat.{ℕ}
+use Prim.Native.Nat.{ℕ, _<_}
 use mathlib.Core.Bool.{cond}
 use mathlib.Core.Path.{_≡_, refl, ap}
 use mathlib.Core.List.{List, [], _∷_}
-use lib.Dec.{eqb}
+use lib.Dec.{eqb, lit<}
 use Rattle.paper.proofs.Lossless.{lossless}
+use Rattle.wire.proofs.Cases.{same-below}
 use Rattle.icmpv6_codes.specs.declared.dest_unreachable_code.DestUnreachableCode.{DestUnreachableCode}
 use Rattle.icmpv6_codes.specs.declared.dest_unreachable_code.DestUnreachableCode.the-variants.{NoRoute, Prohibited, BeyondScope, Address, Port, SourceAddressFailedPolicy, RejectRoute}
 use Rattle.icmpv6_codes.specs.declared.dest_unreachable_code.DestUnreachableListing.{DestUnreachableListing}
@@ -87,3 +88,40 @@ problem-told-back problem.NotListed = refl
 
 pub problem-told-lossless : (x y : ParameterProblemListing) → problemTold x ≡ problemTold y → x ≡ y
 problem-told-lossless = lossless problemTold (λ p. problemListing (p .values)) problem-told-back
+
+-- the numbers are those below how many there are, and each is that of a code
+
+pub dest-below : (c : DestUnreachableCode) → destNumber c < 7
+dest-below NoRoute = lit< tt
+dest-below Prohibited = lit< tt
+dest-below BeyondScope = lit< tt
+dest-below Address = lit< tt
+dest-below Port = lit< tt
+dest-below SourceAddressFailedPolicy = lit< tt
+dest-below RejectRoute = lit< tt
+
+pub dest-number : (n : ℕ) → n < 7 → destNumber (destOf n) ≡ n
+dest-number = same-below (λ n. destNumber (destOf n)) (λ n. n) 7 tt
+
+pub time-below : (c : TimeExceededCode) → timeNumber c < 2
+time-below HopLimitExceeded = lit< tt
+time-below FragmentReassemblyTimeExceeded = lit< tt
+
+pub time-number : (n : ℕ) → n < 2 → timeNumber (timeOf n) ≡ n
+time-number = same-below (λ n. timeNumber (timeOf n)) (λ n. n) 2 tt
+
+pub problem-below : (c : ParameterProblemCode) → problemNumber c < 11
+problem-below ErroneousHeaderField = lit< tt
+problem-below UnrecognizedNextHeader = lit< tt
+problem-below UnrecognizedIpv6Option = lit< tt
+problem-below FirstFragmentIncompleteHeaderChain = lit< tt
+problem-below SrUpperLayerHeaderError = lit< tt
+problem-below UnrecognizedNextHeaderByIntermediateNode = lit< tt
+problem-below ExtensionHeaderTooBig = lit< tt
+problem-below ExtensionHeaderChainTooLong = lit< tt
+problem-below TooManyExtensionHeaders = lit< tt
+problem-below TooManyOptionsInExtensionHeader = lit< tt
+problem-below OptionTooBig = lit< tt
+
+pub problem-number : (n : ℕ) → n < 11 → problemNumber (problemOf n) ≡ n
+problem-number = same-below (λ n. problemNumber (problemOf n)) (λ n. n) 11 tt

@@ -1,14 +1,18 @@
--- One step of a search through a table, for any table: at a row of the type it ends there, and else it goes on.
+-- What the table says of a type, so that no caller opens it; and one step of a search through any table: at a row of the type it
+-- ends there, and else it goes on.
 -- Assumes nothing.
 use Prim.Native.Nat.{ℕ, _+_, _<_}
-use mathlib.Core.Path.{_≡_}
+use mathlib.Core.Bool.{false}
+use mathlib.Core.Path.{_≡_, refl, sym}
 use mathlib.Core.List.{List}
+use native.Mathlib.Omega.{arith}
 use native.Mathlib.Numerals.{add-one}
+use lib.Dec.{ltb}
 use lib.ListN.{length, getD, drop}
 use lib.Seq.{drop-cons}
-use borrow.Author.Tests.{eq-eqb, ne-eqb}
+use borrow.Author.Tests.{eq-eqb, ne-eqb, le-ltb}
 use Rattle.message_table.specs.declared.Row.{Row}
-use Rattle.message_table.specs.Table.{rowOf}
+use Rattle.message_table.specs.Table.{rowOf, known}
 
 module _ (t : List Row) (i : ℕ) (d : Row) (k : ℕ) (within : i < length t) where
   pub hit : getD t i d .kind ≡ k → rowOf (drop i t) k ≡ getD t i d
@@ -16,3 +20,48 @@ module _ (t : List Row) (i : ℕ) (d : Row) (k : ℕ) (within : i < length t) wh
 
   pub miss : (getD t i d .kind ≡ k → ⊥) → rowOf (drop i t) k ≡ rowOf (drop (i + 1) t) k
   miss n = rw (add-one, drop-cons t i d within, ne-eqb (getD t i d .kind) k n)
+
+-- the types that list more codes than 0
+pub codes-of-1 : (c : ℕ) → known 1 c ≡ ltb c 7
+unfolding known
+codes-of-1 c = refl
+
+pub codes-of-3 : (c : ℕ) → known 3 c ≡ ltb c 2
+unfolding known
+codes-of-3 c = refl
+
+pub codes-of-4 : (c : ℕ) → known 4 c ≡ ltb c 11
+unfolding known
+codes-of-4 c = refl
+
+-- a type that no row has
+module _ (k c : ℕ)
+    (n1 : k ≡ 1 → ⊥)
+    (n2 : k ≡ 2 → ⊥)
+    (n3 : k ≡ 3 → ⊥)
+    (n4 : k ≡ 4 → ⊥)
+    (n128 : k ≡ 128 → ⊥)
+    (n129 : k ≡ 129 → ⊥)
+    (n133 : k ≡ 133 → ⊥)
+    (n134 : k ≡ 134 → ⊥)
+    (n135 : k ≡ 135 → ⊥)
+    (n136 : k ≡ 136 → ⊥)
+    (n137 : k ≡ 137 → ⊥)
+  where
+    pub unlisted : known k c ≡ false
+    unfolding known
+    unlisted =
+        simp (
+          ne-eqb 1 k (λ e. n1 (sym e)),
+          ne-eqb 2 k (λ e. n2 (sym e)),
+          ne-eqb 3 k (λ e. n3 (sym e)),
+          ne-eqb 4 k (λ e. n4 (sym e)),
+          ne-eqb 128 k (λ e. n128 (sym e)),
+          ne-eqb 129 k (λ e. n129 (sym e)),
+          ne-eqb 133 k (λ e. n133 (sym e)),
+          ne-eqb 134 k (λ e. n134 (sym e)),
+          ne-eqb 135 k (λ e. n135 (sym e)),
+          ne-eqb 136 k (λ e. n136 (sym e)),
+          ne-eqb 137 k (λ e. n137 (sym e)),
+          le-ltb c 0 (omega arith),
+        )

@@ -1,0 +1,4 @@
+pub mod Laws
+pub mod Paper
+pub mod RoundTrip
+pub mod Unique

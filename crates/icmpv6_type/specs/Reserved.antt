@@ -1,0 +1,62 @@
+-- Document 01, "The eight-byte head": bytes 4 to 7 of types 1, 3, 133, 135, 137 and the reserved bits of 134 and 136 are dropped on
+-- reading and written 0, unless the value is Unknown. In each byte the reserved bits are its lowest.
+-- Assumes nothing.
+use Prim.Native.Nat.{ℕ, _<_}
+use mathlib.Core.Bool.{Bool, cond, false}
+use mathlib.Core.List.{List, [], _∷_}
+use lib.Dec.{eqb}
+use lib.ListN.{getD}
+use Rattle.wire.specs.Bits.{clear}
+use Rattle.message_table.specs.Table.{known}
+use Rattle.icmpv6_type.specs.declared.Icmpv6Type.{Icmpv6Type}
+use Rattle.icmpv6_type.specs.declared.Icmpv6Type.the-variants.{Unknown, DestinationUnreachable, PacketTooBig, TimeExceeded, ParameterProblem, EchoRequest, EchoReply, RouterSolicitation, RouterAdvertisement, NeighborSolicitation, NeighborAdvertisement, Redirect}
+use Rattle.icmpv6_type.specs.Value.{nothing}
+
+-- how many low bits are reserved, of each of bytes 4 to 7
+abbrev pub reservedOf : ℕ → ℕ → List ℕ
+reservedOf k c =
+    cond (known k c)
+    (cond (eqb k 2) nothing
+    (cond (eqb k 4) nothing
+    (cond (eqb k 128) nothing
+    (cond (eqb k 129) nothing
+    (cond (eqb k 134) (0 ∷ 6 ∷ 0 ∷ 0 ∷ [])
+    (cond (eqb k 136) (5 ∷ 8 ∷ 8 ∷ 8 ∷ []) (8 ∷ 8 ∷ 8 ∷ 8 ∷ [])))))))
+    nothing
+
+-- bytes 4 to 7 without their reserved bits
+abbrev pub cleared : ℕ → ℕ → List ℕ → List ℕ
+cleared k c b =
+    let n = reservedOf k c in
+    clear (getD n 0 0) (getD b 0 0) ∷ clear (getD n 1 0) (getD b 1 0) ∷ clear (getD n 2 0) (getD b 2 0)
+    ∷ clear (getD n 3 0) (getD b 3 0) ∷ []
+
+-- the numbers of a value fit their fields, as those of every value in memory do
+abbrev pub Fits : Icmpv6Type → Type 0
+Fits (Unknown k c w) = w < 4294967296
+Fits (DestinationUnreachable c) = Unit
+Fits (PacketTooBig mtu) = mtu < 4294967296
+Fits (TimeExceeded c) = Unit
+Fits (ParameterProblem h) = h .pointer < 4294967296
+Fits (EchoRequest h) = (h .id < 65536) × (h .seq < 65536)
+Fits (EchoReply h) = (h .id < 65536) × (h .seq < 65536)
+Fits RouterSolicitation = Unit
+Fits (RouterAdvertisement h) = h .«router_lifetime» < 65536
+Fits NeighborSolicitation = Unit
+Fits (NeighborAdvertisement h) = Unit
+Fits Redirect = Unit
+
+-- an Unknown that names a pair which the table has
+abbrev pub misnamed : Icmpv6Type → Bool
+misnamed (Unknown k c w) = known k c
+misnamed (DestinationUnreachable c) = false
+misnamed (PacketTooBig mtu) = false
+misnamed (TimeExceeded c) = false
+misnamed (ParameterProblem h) = false
+misnamed (EchoRequest h) = false
+misnamed (EchoReply h) = false
+misnamed RouterSolicitation = false
+misnamed (RouterAdvertisement h) = false
+misnamed NeighborSolicitation = false
+misnamed (NeighborAdvertisement h) = false
+misnamed Redirect = false
