@@ -1,0 +1,26 @@
+-- The rule of any size, at the option's own type.
+-- Assumes nothing.
+use borrow.Author.Needs.{needs}
+use Rattle.ndp_option.proofs.link_layer_address_option.LinkLayerAddressOption.from_slice.Statement.{
+  statement,
+}
+use Rattle.ndp_option.proofs.link_layer_address_option.LinkLayerAddressOption.from_slice.Tie as tie
+use Rattle.ndp_option.proofs.link_layer_address_option.LinkLayerAddressOption.from_slice.Reads as reads
+use Rattle.ndp_option.proofs.link_layer_address_option.LinkLayerAddressOption.from_slice.Lts as lts
+use Rattle.ndp_option.proofs.link_layer_address_option.LinkLayerAddressOption.option_type.Reads as option-type-reads
+use Rattle.ndp_option.proofs.sized.Reads as sized-reads
+
+-- src/link_layer_address_option.rt:28:22
+option-type-requires : tie.Need-option-type-requires
+option-type-requires c κs = search needs
+
+-- src/link_layer_address_option.rt:28:9
+sized-requires : tie.Need-sized-requires
+sized-requires c κs = search needs
+
+-- src/link_layer_address_option.rt:25:5
+returns : tie.Need-returns
+returns c = rw (← (c .before .option-type .ensures)) (c .sized .ensures)
+
+pub from-slice-spec : {M : Type 1} → statement M
+from-slice-spec = tie.close (tie.spec option-type-requires sized-requires returns)

@@ -1,0 +1,4 @@
+pub mod Rule
+pub mod Mtu
+pub mod LinkLayer
+pub mod Prefix
