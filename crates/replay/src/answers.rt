@@ -1,7 +1,5 @@
 // What the library answers to each call of compare/FORMAT.md, as numbers in a lent buffer: how many bytes they take there.
-use icmpv6_headers::router_advertisement_header::RouterAdvertisementHeader;
-use crate::numbers;
-use crate::numbers::put;
+use crate::options;
 use crate::types;
 
 // Writes the name of a call.
@@ -11,6 +9,13 @@ pub fn name(call: u8) {
         3 => write(b"Icmpv6Header::to_bytes"),
         4 => write(b"RouterAdvertisementHeader::from_bytes"),
         5 => write(b"RouterAdvertisementHeader::to_bytes"),
+        6 => write(b"NdpOptionHeader::from_slice"),
+        7 => write(b"NdpOptionHeader::from_bytes, to_bytes, byte_len"),
+        8 => write(b"PrefixInformation::from_slice"),
+        9 => write(b"PrefixInformation::from_bytes"),
+        10 => write(b"PrefixInformation::to_bytes"),
+        11 => write(b"MtuOptionSlice"),
+        12 => write(b"RedirectedHeaderOptionSlice"),
         _ => write(b"another call"),
     }
 }
@@ -21,26 +26,17 @@ pub fn write(text: &[u8]) {
 
 pub fn answer(call: u8, input: &[u8], own: &mut [u8]) -> usize {
     match call {
-        4 => router_from_bytes(input, own),
-        5 => router_to_bytes(input, own),
+        2 => types::icmp_type(input, own),
+        3 => types::header_to_bytes(input, own),
+        4 => types::router_from_bytes(input, own),
+        5 => types::router_to_bytes(input, own),
+        6 => options::header_from_slice(input, own),
+        7 => options::header_bytes(input, own),
+        8 => options::prefix_from_slice(input, own),
+        9 => options::prefix_from_bytes(input, own),
+        10 => options::prefix_to_bytes(input, own),
+        11 => options::mtu(input, own),
+        12 => options::redirected_header(input, own),
         _ => 0,
     }
-}
-
-fn router_from_bytes(input: &[u8], own: &mut [u8]) -> usize {
-    if input.len() != 4 {
-        return 0;
-    }
-    let h = RouterAdvertisementHeader::from_bytes([input[0], input[1], input[2], input[3]]);
-    let a = put(own, 0, 0);
-    types::put_router(own, a, h)
-}
-
-fn router_to_bytes(input: &[u8], own: &mut [u8]) -> usize {
-    if input.len() != 5 {
-        return 0;
-    }
-    let h = types::router_advertisement(input[0], input[1], input[2], input[3], input[4]);
-    let a = put(own, 0, 0);
-    numbers::put_bytes(own, a, h.to_bytes())
 }

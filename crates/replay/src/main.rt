@@ -3,8 +3,10 @@
 ghost use mathlib.Core.Path.{_≡_};
 ghost use Prim.Native.Nat.{_+_, _<_, _≤_};
 ghost use lib.ListN.{length};
+
 mod answers;
 mod numbers;
+mod options;
 mod types;
 
 // A call, the length of the input, the count of numbers of the answer: before each vector.

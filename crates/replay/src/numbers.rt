@@ -39,10 +39,31 @@ pub fn put_bytes(own: &mut [u8], at: usize, b: [u8; 4]) -> usize {
     put(own, at, wire::u32_from_be(b[0], b[1], b[2], b[3]) as u64)
 }
 
-// A part of the input: its place, which is what is before it, and its length.
+// A part of the input: its place and its length.
 pub fn put_part(own: &mut [u8], at: usize, place: usize, len: usize) -> usize {
     let next = put(own, at, place as u64);
     put(own, next, len as u64)
+}
+
+// What was handed back as the rest of the input, if it is that.
+pub fn put_rest(own: &mut [u8], at: usize, input: &[u8], rest: &[u8]) -> usize {
+    if input.len() < rest.len() {
+        return at;
+    }
+    let place = input.len() - rest.len();
+    if check::same(&input[place..], rest) {
+        put_part(own, at, place, rest.len())
+    } else {
+        at
+    }
+}
+
+// Sixteen bytes in fours, each four as one number.
+pub fn put_sixteen(own: &mut [u8], at: usize, b: [u8; 16]) -> usize {
+    let next = put_bytes(own, at, [b[0], b[1], b[2], b[3]]);
+    let third = put_bytes(own, next, [b[4], b[5], b[6], b[7]]);
+    let last = put_bytes(own, third, [b[8], b[9], b[10], b[11]]);
+    put_bytes(own, last, [b[12], b[13], b[14], b[15]])
 }
 
 // A refusal: its number, and what it carries.
