@@ -31,11 +31,14 @@ join32 x h =
     (div-add-mod' (x / 256 / 256) 256))
 
 module _ (a b : ℕ) (ha : a < 256) (hb : b < 256) where
+  pub high16 : word16 a b / 256 % 256 ≡ a
+  high16 = omega arith
+
+  pub low16 : word16 a b % 256 ≡ b
+  low16 = omega arith
+
   pub split16 : bytes16 (word16 a b) ≡ a ∷ b ∷ []
-  split16 =
-      let high : word16 a b / 256 % 256 ≡ a = omega arith in
-      let low : word16 a b % 256 ≡ b = omega arith in
-      simp (high, low)
+  split16 = simp (high16, low16)
 
 module _ (p q r s : ℕ) (hp : p < 256) (hq : q < 256) (hr : r < 256) (hs : s < 256) where
   pub split32 : bytes32 (word32 p q r s) ≡ p ∷ q ∷ r ∷ s ∷ []

@@ -1,0 +1,9 @@
+pub mod Folding
+pub mod Suffix
+pub mod Sums
+pub mod Packets
+pub mod Paper
+pub mod Passing
+pub mod Validity
+pub mod Cases
+pub mod Unique

@@ -1,0 +1,5 @@
+pub mod Ones
+pub mod Icmpv6
+pub mod Told
+pub mod Fields
+pub mod Running

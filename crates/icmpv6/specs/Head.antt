@@ -1,0 +1,48 @@
+-- RFC 4443, section 2.1, and document 01, "The eight-byte head": byte 0 type, 1 code, 2 and 3 checksum, 4 to 7 by type.
+-- Assumes nothing.
+use Prim.Native.Nat.{ℕ}
+use mathlib.Core.List.{List, [], _∷_, _++_}
+use lib.ListN.{length, getD}
+use Rattle.paper.specs.Paper.{Paper, gives}
+use Rattle.refusal.specs.Paper.{refusal}
+use Rattle.wire.specs.Wire.{word16, word32, bytes16}
+use Rattle.packet_length.specs.Length.{sized}
+use Rattle.icmpv6_type.specs.Value.{typeOf, typeTold, typeNumber, codeNumber, fieldBytes}
+use Rattle.icmpv6.specs.declared.icmpv6_header.Icmpv6Header.{Icmpv6Header}
+use Rattle.icmpv6.specs.declared.icmpv6_header.HeaderRead.{HeaderRead}
+use Rattle.icmpv6.specs.declared.icmpv6_header.HeaderRead.the-variants as read
+use Rattle.icmpv6.specs.declared.icmpv6_slice.Parts.{Parts}
+use Rattle.icmpv6.specs.declared.icmpv6_slice.Parts.the-variants as parts
+
+-- bytes 4 to 7
+abbrev pub fieldsAt : List ℕ → List ℕ
+fieldsAt p = getD p 4 0 ∷ getD p 5 0 ∷ getD p 6 0 ∷ getD p 7 0 ∷ []
+
+abbrev pub checksumAt : List ℕ → ℕ
+checksumAt p = word16 (getD p 2 0) (getD p 3 0)
+
+-- the header at the start of a packet: the checksum field, and the value of the rest
+unfoldable pub decodeOf : List ℕ → Paper
+decodeOf p = sized (length p) (gives (checksumAt p ∷ typeOf (getD p 0 0) (getD p 1 0) (fieldsAt p)))
+
+-- type, code, checksum field, bytes 4 to 7
+unfoldable pub partsOf : List ℕ → Paper
+partsOf p =
+    sized (length p)
+    (gives (getD p 0 0 ∷ getD p 1 0 ∷ checksumAt p ∷ word32 (getD p 4 0) (getD p 5 0) (getD p 6 0) (getD p 7 0) ∷ []))
+
+-- the eight bytes that a header is written as
+abbrev pub encodeOf : Icmpv6Header → List ℕ
+encodeOf h =
+    typeNumber (h .«icmp_type») ∷ codeNumber (h .«icmp_type») ∷ (bytes16 (h .checksum) ++ fieldBytes (h .«icmp_type»))
+
+abbrev pub headerTold : Icmpv6Header → List ℕ
+headerTold h = h .checksum ∷ typeTold (h .«icmp_type»)
+
+abbrev pub readTold : HeaderRead → Paper
+readTold (read.Header h) = gives (headerTold h)
+readTold (read.Refused r) = refusal r
+
+abbrev pub partsTold : Parts → Paper
+partsTold (parts.Head h) = gives (h .«type_u8» ∷ h .«code_u8» ∷ h .checksum ∷ h .bytes5to8 ∷ [])
+partsTold (parts.Refused r) = refusal r

@@ -1,0 +1,51 @@
+-- What a length that was tested says of any answer given after the test.
+-- Assumes nothing.
+use Prim.Native.Nat.{ℕ, _<_, _≤_}
+use mathlib.Core.Bool.{Bool, true, false, cond}
+use mathlib.Core.Path.{_≡_, refl, sym, ap, _∙_}
+use mathlib.Core.List.{[], _∷_}
+use native.Mathlib.Omega.{arith}
+use lib.Dec.{eqb, ltb}
+use borrow.Author.Tests.{ltb-false, le-ltb}
+use Rattle.paper.specs.Paper.{Paper, refuses, gives}
+use Rattle.refusal.specs.declared.Refusal.{Refusal}
+use Rattle.refusal.specs.Paper.{refusal}
+use Rattle.refusal.proofs.Paper.{refusal-numbered}
+use Rattle.packet_length.specs.Length.{limit, sized}
+
+-- a length that fits
+module _ (n : ℕ) (low : 8 ≤ n) (high : n ≤ limit) where
+  pub sized-fits : (answer : Paper) → sized n answer ≡ answer
+  unfolding sized
+  sized-fits answer = simp (le-ltb n 8 low, le-ltb limit n high)
+
+-- what a test passed says of the length
+pub record Between (n : ℕ) : Type 0 where
+  pub low : 8 ≤ n
+  pub high : n ≤ limit
+
+pub passed : (n : ℕ) → gives [] ≡ sized n (gives []) → Between n
+unfolding sized
+passed n = by (ltb n 8) refl
+  where
+    next : (a : Bool) → ltb limit n ≡ a → ltb n 8 ≡ false → gives [] ≡ cond a (refuses 2 (limit ∷ n ∷ [])) (gives []) → Between n
+    next true f e q = let z : _≡_ {A = ℕ} 0 2 = ap (λ (p : Paper). p .number) q in absurd (omega arith)
+    next false f e q = record { low = ltb-false n 8 e; high = ltb-false limit n f }
+
+    by : (a : Bool) → ltb n 8 ≡ a → gives [] ≡ cond a (refuses 1 (8 ∷ n ∷ [])) (cond (ltb limit n) (refuses 2 (limit ∷ n ∷ [])) (gives [])) → Between n
+    by true e q = let z : _≡_ {A = ℕ} 0 1 = ap (λ (p : Paper). p .number) q in absurd (omega arith)
+    by false e q = next (ltb limit n) refl e q
+
+-- the same refusal whatever would have been answered
+pub refused : (n : ℕ) (r : Refusal) → refusal r ≡ sized n (gives []) → (answer : Paper) → sized n answer ≡ refusal r
+unfolding sized
+refused n r q answer = by (ltb n 8) (ltb limit n) q
+  where
+    by : (a b : Bool) →
+        refusal r ≡ cond a (refuses 1 (8 ∷ n ∷ [])) (cond b (refuses 2 (limit ∷ n ∷ [])) (gives [])) →
+        cond a (refuses 1 (8 ∷ n ∷ [])) (cond b (refuses 2 (limit ∷ n ∷ [])) answer) ≡ refusal r
+    by true b q = sym q
+    by false true q = sym q
+    by false false q =
+        let z : true ≡ false = sym (ap (λ (p : Paper). eqb (p .number) 0) q) ∙ refusal-numbered r in
+        cc
