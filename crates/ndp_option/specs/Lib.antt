@@ -1,4 +1,2 @@
-pub mod Rule
 pub mod Mtu
 pub mod LinkLayer
-pub mod Prefix

@@ -8,7 +8,7 @@ use Rattle.refusal.specs.Paper.{refusal}
 use Rattle.wire.specs.Wire.{word32}
 use Rattle.ndp_option.specs.declared.mtu_option.MtuOption.{MtuOption}
 use Rattle.ndp_option.specs.declared.mtu_option.MtuOption.the-variants.{Mtu, Refused}
-use Rattle.ndp_option.specs.Rule.{exactlyOf, ifRead}
+use Rattle.ndp_option_read.specs.Rule.{exactlyOf, ifRead}
 
 abbrev pub mtuTold : MtuOption → Paper
 mtuTold (Mtu mtu) = gives (mtu ∷ [])

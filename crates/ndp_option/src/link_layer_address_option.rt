@@ -1,9 +1,9 @@
 // The source and the target link-layer address option (RFC 4861, section 4.6.1): 1 or 2, units, the address.
 // Port of source_link_layer_address_option_slice.rs and target_link_layer_address_option_slice.rs, whose tests are those of the redirected header.
 ghost use mathlib.Core.Path.{_≡_};
-ghost use Rattle.ndp_option.specs.Rule.{readTold, sizedOf, partFrom};
+ghost use Rattle.ndp_option_read.specs.Rule.{readTold, sizedOf, partFrom};
 ghost use Rattle.ndp_option.specs.LinkLayer.{typeOf};
-use crate::NdpOptionRead;
+use ndp_option_read::NdpOptionRead;
 use refusal::NdpOptionType;
 
 // Whose address it is.
@@ -25,7 +25,7 @@ impl LinkLayerAddressOption {
     pub fn from_slice(self, slice: &[u8]) -> NdpOptionRead
         ensures { λ r. ⌜ readTold r ≡ sizedOf (typeOf self) (now (slice .entry)) ⌝ }
     {
-        crate::sized(self.option_type(), slice)
+        ndp_option_read::sized(self.option_type(), slice)
     }
 
     // The address, with the padding that may stand behind it; no bytes of an option that is refused.

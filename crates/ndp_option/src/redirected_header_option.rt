@@ -1,14 +1,14 @@
 // The redirected header option (RFC 4861, section 4.6.3): 4, units, six reserved bytes, the start of the packet.
 // Port of redirected_header_option_slice.rs.
 ghost use mathlib.Core.Path.{_≡_};
-ghost use Rattle.ndp_option.specs.Rule.{readTold, sizedOf, partFrom};
-use crate::NdpOptionRead;
+ghost use Rattle.ndp_option_read.specs.Rule.{readTold, sizedOf, partFrom};
+use ndp_option_read::NdpOptionRead;
 use refusal::NdpOptionType;
 
 pub fn from_slice(slice: &[u8]) -> NdpOptionRead
     ensures { λ r. ⌜ readTold r ≡ sizedOf 4 (now (slice .entry)) ⌝ }
 {
-    crate::sized(NdpOptionType(4), slice)
+    ndp_option_read::sized(NdpOptionType(4), slice)
 }
 
 // The redirected packet, with the padding that may stand behind it; no bytes of an option that is refused.

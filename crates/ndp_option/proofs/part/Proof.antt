@@ -9,46 +9,34 @@ use borrow.Author.Tests.{le-ltb}
 use borrow.Author.Needs.{needs}
 use Rattle.ndp_option.proofs.part.Statement.{statement}
 use Rattle.ndp_option.proofs.part.Tie as tie
-use Rattle.ndp_option.proofs.part.Reads as reads
-use Rattle.ndp_option.proofs.part.Lts as lts
 
--- src/lib.rt:94:24
 enum-told : tie.Need-enum-told
 enum-told c = search needs
 
--- src/lib.rt:95:17
 sub-result : tie.Need-sub-result
 sub-result c = search needs
 
--- src/lib.rt:95:17
 part-result-start : tie.Need-part-result-start
 part-result-start c = search needs
 
--- src/lib.rt:95:17
 part-result-end : tie.Need-part-result-end
 part-result-end c = search needs
 
--- src/lib.rt:97:17
 slice-aggregate-result : tie.Need-slice-aggregate-result
 slice-aggregate-result c = search needs
 
--- src/lib.rt:100:38
 enum-told-2 : tie.Need-enum-told-2
 enum-told-2 c = search needs
 
--- src/lib.rt:100:38
 slice-aggregate-result-2 : tie.Need-slice-aggregate-result-2
 slice-aggregate-result-2 c = search needs
 
--- src/lib.rt:89:1
 returns : tie.Need-returns
 returns c = rw (c .before .before .enum-told .given .1, ← length-drop) (take-length _)
 
--- src/lib.rt:89:1
 returns-2 : tie.Need-returns-2
 returns-2 c = rw (c .before .before .enum-told .given .1) (sym (drop-of-length-le _ (le-of-lt (c .before .if1 .left))))
 
--- src/lib.rt:89:1
 returns-3 : tie.Need-returns-3
 returns-3 c = simp (c .before .enum-told2 .given .1, refusal-numbered)
 

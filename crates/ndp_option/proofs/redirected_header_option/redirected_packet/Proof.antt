@@ -5,20 +5,13 @@ use Rattle.ndp_option.proofs.redirected_header_option.redirected_packet
   statement,
 }
 use Rattle.ndp_option.proofs.redirected_header_option.redirected_packet.Tie as tie
-use Rattle.ndp_option.proofs.redirected_header_option.redirected_packet.Reads as reads
-use Rattle.ndp_option.proofs.redirected_header_option.redirected_packet.Lts as lts
-use Rattle.ndp_option.proofs.part.Reads as part-reads
-use Rattle.ndp_option.proofs.redirected_header_option.from_slice.Reads as from-slice-reads
 
--- src/redirected_header_option.rt:18:17
 from-slice-requires : tie.Need-from-slice-requires
 from-slice-requires c κs = search needs
 
--- src/redirected_header_option.rt:18:5
 part-requires : tie.Need-part-requires
 part-requires c κs = search needs
 
--- src/redirected_header_option.rt:15:1
 returns : tie.Need-returns
 returns c = rw (← (c .before .from-slice .ensures)) (c .part .ensures)
 

@@ -7,19 +7,13 @@ use lib.ListN.{getD, List·getD-eq-default}
 use borrow.Author.Needs.{needs}
 use Rattle.ndp_option.proofs.unknown_option.from_slice.Statement.{statement}
 use Rattle.ndp_option.proofs.unknown_option.from_slice.Tie as tie
-use Rattle.ndp_option.proofs.unknown_option.from_slice.Reads as reads
-use Rattle.ndp_option.proofs.unknown_option.from_slice.Lts as lts
-use Rattle.ndp_option.proofs.sized.Reads as sized-reads
 
--- src/unknown_option.rt:11:47
 shared-slice-read-id : tie.Need-shared-slice-read-id
 shared-slice-read-id c = search needs
 
--- src/unknown_option.rt:12:5
 sized-requires : tie.Need-sized-requires
 sized-requires c κs = search needs
 
--- src/unknown_option.rt:8:1
 returns : tie.Need-returns
 returns c = let s = c .before .before .before .args .slice .now in let first : c .before .if1 .id ≡ getD s 0 0 = ⊎-elim (λ w. w .1 ∙ sym (List·getD-eq-default s 0 {n = 0} (omega (arith, w .0 .taken)))) (λ w. w .2) (c .before .if1 .came) in rw (← first) (c .sized .ensures)
 

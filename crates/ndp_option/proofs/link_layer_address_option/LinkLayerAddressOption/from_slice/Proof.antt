@@ -5,20 +5,13 @@ use Rattle.ndp_option.proofs.link_layer_address_option.LinkLayerAddress
   statement,
 }
 use Rattle.ndp_option.proofs.link_layer_address_option.LinkLayerAddressOption.from_slice.Tie as tie
-use Rattle.ndp_option.proofs.link_layer_address_option.LinkLayerAddressOption.from_slice.Reads as reads
-use Rattle.ndp_option.proofs.link_layer_address_option.LinkLayerAddressOption.from_slice.Lts as lts
-use Rattle.ndp_option.proofs.link_layer_address_option.LinkLayerAddressOption.option_type.Reads as option-type-reads
-use Rattle.ndp_option.proofs.sized.Reads as sized-reads
 
--- src/link_layer_address_option.rt:28:22
 option-type-requires : tie.Need-option-type-requires
 option-type-requires c κs = search needs
 
--- src/link_layer_address_option.rt:28:9
 sized-requires : tie.Need-sized-requires
 sized-requires c κs = search needs
 
--- src/link_layer_address_option.rt:25:5
 returns : tie.Need-returns
 returns c = rw (← (c .before .option-type .ensures)) (c .sized .ensures)
 

@@ -5,20 +5,13 @@ use Rattle.ndp_option.proofs.link_layer_address_option.LinkLayerAddress
   statement,
 }
 use Rattle.ndp_option.proofs.link_layer_address_option.LinkLayerAddressOption.link_layer_address.Tie as tie
-use Rattle.ndp_option.proofs.link_layer_address_option.LinkLayerAddressOption.link_layer_address.Reads as reads
-use Rattle.ndp_option.proofs.link_layer_address_option.LinkLayerAddressOption.link_layer_address.Lts as lts
-use Rattle.ndp_option.proofs.link_layer_address_option.LinkLayerAddressOption.from_slice.Reads as from-slice-reads
-use Rattle.ndp_option.proofs.part.Reads as part-reads
 
--- src/link_layer_address_option.rt:35:21
 from-slice-requires : tie.Need-from-slice-requires
 from-slice-requires c κs = search needs
 
--- src/link_layer_address_option.rt:35:9
 part-requires : tie.Need-part-requires
 part-requires c κs = search needs
 
--- src/link_layer_address_option.rt:32:5
 returns : tie.Need-returns
 returns c = rw (← (c .before .from-slice .ensures)) (c .part .ensures)
 

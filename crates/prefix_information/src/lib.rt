@@ -1,8 +1,8 @@
 // The prefix information option (RFC 4861, section 4.6.2). Port of prefix_information.rs.
 ghost use mathlib.Core.Path.{_≡_};
 ghost use lib.ListN.{length, drop};
-ghost use Rattle.ndp_option.specs.Prefix.{prefixTold, prefixOf, informationAt, bytesOf};
-use crate::NdpOptionRead;
+ghost use Rattle.prefix_information.specs.Prefix.{prefixTold, prefixOf, informationAt, bytesOf};
+use ndp_option_read::NdpOptionRead;
 use refusal::LengthUnits;
 use refusal::NdpOptionType;
 
@@ -39,7 +39,7 @@ impl PrefixInformation {
     pub fn from_slice(slice: &[u8]) -> PrefixInformationRead
         ensures { λ r. ⌜ prefixTold r ≡ prefixOf (now (slice .entry)) ⌝ }
     {
-        match crate::exactly(NdpOptionType(3), LengthUnits(4), slice) {
+        match ndp_option_read::exactly(NdpOptionType(3), LengthUnits(4), slice) {
             NdpOptionRead::Accepted => PrefixInformationRead {
                 answer: NdpOptionRead::Accepted,
                 information: information_in(slice),

@@ -6,9 +6,9 @@ use mathlib.Core.List.{List, [], _∷_, _++_}
 use lib.ListN.{getD, drop, replicate}
 use Rattle.paper.specs.Paper.{Paper}
 use Rattle.wire.specs.Wire.{word32, bytes32, hasFlag, flagOf}
-use Rattle.ndp_option.specs.declared.prefix_information.PrefixInformation.{PrefixInformation}
-use Rattle.ndp_option.specs.declared.prefix_information.PrefixInformationRead.{PrefixInformationRead}
-use Rattle.ndp_option.specs.Rule.{readTold, exactlyOf, ifRead}
+use Rattle.prefix_information.specs.declared.PrefixInformation.{PrefixInformation}
+use Rattle.prefix_information.specs.declared.PrefixInformationRead.{PrefixInformationRead}
+use Rattle.ndp_option_read.specs.Rule.{readTold, exactlyOf, ifRead}
 
 -- what the bytes say: 128 is on-link, 64 autonomous; the other bits of the flags and the bytes 12 to 15 are reserved
 abbrev pub informationAt : List ℕ → PrefixInformation

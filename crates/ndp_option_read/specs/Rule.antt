@@ -8,8 +8,8 @@ use lib.ListN.{getD, length, drop}
 use Rattle.paper.specs.Paper.{Paper, refuses, gives}
 use Rattle.refusal.specs.Paper.{refusal}
 use Rattle.ndp_option_header.specs.Header.{bytesOf}
-use Rattle.ndp_option.specs.declared.NdpOptionRead.{NdpOptionRead}
-use Rattle.ndp_option.specs.declared.NdpOptionRead.the-variants.{Accepted, Refused}
+use Rattle.ndp_option_read.specs.declared.NdpOptionRead.{NdpOptionRead}
+use Rattle.ndp_option_read.specs.declared.NdpOptionRead.the-variants.{Accepted, Refused}
 
 -- an option that is accepted has no values here: what it says is read beside
 abbrev pub readTold : NdpOptionRead → Paper
