@@ -50,6 +50,17 @@ module _ (rule : Rule) (s : List ℕ) where
   pub at-most : length (walk rule s .items) ≤ length s / 8
   at-most = omega (arith, path-count rule (walked rule 0 s .path), came)
 
+  -- a refusal is that of the judgement at its place, which is within the bytes
+  pub refused-there : {at : ℕ} {why : Paper} → walk rule s .ending ≡ RefusedAt at why → (judge rule (drop at s) ≡ Bad why) × (at ≤ length s)
+  refused-there {at} {why} e = go (walked rule 0 s .stop) came e
+    where
+      go : {w : Ending} {to : ℕ} {r : List ℕ} → Stop rule w to r → Rest s to r → w ≡ RefusedAt at why → (judge rule (drop at s) ≡ Bad why) × (at ≤ length s)
+      go (over e) h q = absurd (let z : _≡_ {A = ℕ} 0 1 = cc in omega arith)
+      go {to = to} {r = r} (bad {why = p} e) h q =
+          let place : to ≡ at = cc in
+          let same : p ≡ why = cc in
+          rw (← place, ← (h .0), ← same) (e, h .1)
+
 -- ---- whole options, one after the other, are walked clean
 module _ (rule : Rule) where
   head : (o b : List ℕ) → Whole rule o → judge rule (o ++ b) ≡ Good (kindIn (rule o)) (getD o 0 0) (length o)
