@@ -8,6 +8,7 @@ mod answers;
 mod numbers;
 mod options;
 mod types;
+mod walk;
 
 // A call, the length of the input, the count of numbers of the answer: before each vector.
 const HEAD: usize = 5;
@@ -119,21 +120,13 @@ fn line(counts: &[u64], call: u8) {
     answers::write(b"\n");
 }
 
-// The vectors still to read after one of n bytes: none, where the stream has ended.
-fn fewer(left: u64, n: usize) -> u64
-    requires { ⌜ 0 < left ⌝ }
-    ensures { λ r. ⌜ r < left ⌝ }
-{
-    if n == 0 { 0 } else { left - 1 }
-}
-
 fn compare(body: &mut [u8], own: &mut [u8], counts: &mut [u64]) {
     let mut place: u64 = 0;
     let mut left = MOST;
     while 0 < left {
         let n = turn(body, own, counts, place);
         place = std::num::wrapping_add_u64(place, n as u64);
-        left = fewer(left, n);
+        left = numbers::fewer(left, n != 0);
     }
 }
 

@@ -1,7 +1,7 @@
 // The numbers of an answer, four bytes each, high byte first, put into a lent buffer one after the other. Each function takes the
 // place of the next one and answers the place after it; what has no room, or is no number of four bytes, is not put.
 ghost use mathlib.Core.Path.{_≡_};
-ghost use Prim.Native.Nat.{_≤_};
+ghost use Prim.Native.Nat.{_<_, _≤_};
 use refusal::Refusal;
 
 // Two bytes, the high one first.
@@ -80,4 +80,12 @@ pub fn put_refusal(own: &mut [u8], at: usize, r: Refusal) -> usize {
 
 fn put_if(own: &mut [u8], at: usize, has: bool, n: u64) -> usize {
     if has { put(own, at, n) } else { at }
+}
+
+// How many turns a loop still has: none, where it does not go on.
+pub fn fewer(left: u64, going: bool) -> u64
+    requires { ⌜ 0 < left ⌝ }
+    ensures { λ r. ⌜ r < left ⌝ }
+{
+    if going { left - 1 } else { 0 }
 }

@@ -1,13 +1,13 @@
 // The readers of single options.
 use crate::numbers;
 use crate::numbers::put;
-use ndp_option::NdpOptionRead;
 use ndp_option::mtu_option::MtuOption;
-use ndp_option::prefix_information::PrefixInformation;
-use ndp_option::prefix_information::PrefixInformationRead;
 use ndp_option::redirected_header_option;
 use ndp_option_header::HeaderRead;
 use ndp_option_header::NdpOptionHeader;
+use ndp_option_read::NdpOptionRead;
+use prefix_information::PrefixInformation;
+use prefix_information::PrefixInformationRead;
 
 fn put_header(own: &mut [u8], h: NdpOptionHeader) -> usize {
     let a = put(own, 0, 0);
@@ -63,7 +63,40 @@ pub fn prefix_from_bytes(input: &[u8], own: &mut [u8]) -> usize {
     if input.len() != 32 {
         return 0;
     }
-    let bytes = [input[0], input[1], input[2], input[3], input[4], input[5], input[6], input[7], input[8], input[9], input[10], input[11], input[12], input[13], input[14], input[15], input[16], input[17], input[18], input[19], input[20], input[21], input[22], input[23], input[24], input[25], input[26], input[27], input[28], input[29], input[30], input[31]];
+    let bytes = [
+        input[0],
+        input[1],
+        input[2],
+        input[3],
+        input[4],
+        input[5],
+        input[6],
+        input[7],
+        input[8],
+        input[9],
+        input[10],
+        input[11],
+        input[12],
+        input[13],
+        input[14],
+        input[15],
+        input[16],
+        input[17],
+        input[18],
+        input[19],
+        input[20],
+        input[21],
+        input[22],
+        input[23],
+        input[24],
+        input[25],
+        input[26],
+        input[27],
+        input[28],
+        input[29],
+        input[30],
+        input[31],
+    ];
     put_prefix(own, PrefixInformation::from_bytes(bytes))
 }
 
@@ -78,12 +111,71 @@ pub fn prefix_to_bytes(input: &[u8], own: &mut [u8]) -> usize {
         autonomous_address_configuration: input[2] != 0,
         valid_lifetime: wire::u32_from_be(input[3], input[4], input[5], input[6]),
         preferred_lifetime: wire::u32_from_be(input[7], input[8], input[9], input[10]),
-        prefix: [input[11], input[12], input[13], input[14], input[15], input[16], input[17], input[18], input[19], input[20], input[21], input[22], input[23], input[24], input[25], input[26]],
+        prefix: [
+            input[11],
+            input[12],
+            input[13],
+            input[14],
+            input[15],
+            input[16],
+            input[17],
+            input[18],
+            input[19],
+            input[20],
+            input[21],
+            input[22],
+            input[23],
+            input[24],
+            input[25],
+            input[26],
+        ],
     };
     let b = p.to_bytes();
     let first = put(own, 0, 0);
-    let next = numbers::put_sixteen(own, first, [0, b[1], b[2], b[3], b[4], b[5], b[6], b[7], b[8], b[9], b[10], b[11], b[12], b[13], b[14], b[15]]);
-    numbers::put_sixteen(own, next, [b[16], b[17], b[18], b[19], b[20], b[21], b[22], b[23], b[24], b[25], b[26], b[27], b[28], b[29], b[30], b[31]])
+    let next = numbers::put_sixteen(
+        own,
+        first,
+        [
+            0,
+            b[1],
+            b[2],
+            b[3],
+            b[4],
+            b[5],
+            b[6],
+            b[7],
+            b[8],
+            b[9],
+            b[10],
+            b[11],
+            b[12],
+            b[13],
+            b[14],
+            b[15],
+        ],
+    );
+    numbers::put_sixteen(
+        own,
+        next,
+        [
+            b[16],
+            b[17],
+            b[18],
+            b[19],
+            b[20],
+            b[21],
+            b[22],
+            b[23],
+            b[24],
+            b[25],
+            b[26],
+            b[27],
+            b[28],
+            b[29],
+            b[30],
+            b[31],
+        ],
+    )
 }
 
 pub fn mtu(input: &[u8], own: &mut [u8]) -> usize {

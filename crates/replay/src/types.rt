@@ -1,6 +1,10 @@
 // Type values: as the vectors have them, and as the numbers of an answer.
 use crate::numbers;
 use crate::numbers::put;
+use icmpv6::icmpv6_header::HeaderRead;
+use icmpv6::icmpv6_header::Icmpv6Header;
+use icmpv6::icmpv6_slice;
+use icmpv6::icmpv6_slice::Parts;
 use icmpv6_headers::router_advertisement_header::RouterAdvertisementHeader;
 use icmpv6_type::Icmpv6Type;
 
@@ -81,13 +85,29 @@ pub fn put_type(own: &mut [u8], at: usize, t: Icmpv6Type) -> usize {
     }
 }
 
-pub fn icmp_type(input: &[u8], own: &mut [u8]) -> usize {
-    if input.len() < 8 {
-        return 0;
+// The parts of a packet as they stand; not the checksum, which the vectors leave out.
+pub fn packet(input: &[u8], own: &mut [u8]) -> usize {
+    match icmpv6_slice::head_parts(input) {
+        Parts::Head(h) => {
+            let a = put(own, 0, 0);
+            let b = put(own, a, h.type_u8 as u64);
+            let c = put(own, b, h.code_u8 as u64);
+            let d = put(own, c, h.bytes5to8 as u64);
+            numbers::put_rest(own, d, input, icmpv6_slice::payload(input))
+        }
+        Parts::Refused(why) => numbers::put_refusal(own, 0, why),
     }
-    let t = Icmpv6Type::from_parts(input[0], input[1], [input[4], input[5], input[6], input[7]]);
-    let a = put(own, 0, 0);
-    put_type(own, a, t)
+}
+
+pub fn icmp_type(input: &[u8], own: &mut [u8]) -> usize {
+    match Icmpv6Header::from_slice(input) {
+        HeaderRead::Header(h) => {
+            let t = h.icmp_type;
+            let a = put(own, 0, 0);
+            put_type(own, a, t)
+        }
+        HeaderRead::Refused(why) => numbers::put_refusal(own, 0, why),
+    }
 }
 
 pub fn header_to_bytes(input: &[u8], own: &mut [u8]) -> usize {
@@ -96,11 +116,16 @@ pub fn header_to_bytes(input: &[u8], own: &mut [u8]) -> usize {
     }
     match value_of(input) {
         Value::Of(t) => {
+            let h = Icmpv6Header {
+                icmp_type: t,
+                checksum: wire::u16_from_be(input[7], input[8]),
+            };
+            let bytes = h.to_bytes();
             let a = put(own, 0, 0);
             let b = put(own, a, t.type_u8() as u64);
             let c = put(own, b, t.code_u8() as u64);
-            let d = numbers::put_bytes(own, c, [t.type_u8(), t.code_u8(), input[7], input[8]]);
-            numbers::put_bytes(own, d, t.bytes5to8())
+            let d = numbers::put_bytes(own, c, [bytes[0], bytes[1], bytes[2], bytes[3]]);
+            numbers::put_bytes(own, d, [bytes[4], bytes[5], bytes[6], bytes[7]])
         }
         Value::Not => 0,
     }
