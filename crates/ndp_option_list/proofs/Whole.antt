@@ -10,9 +10,10 @@ use Rattle.ndp_walk.specs.Walk.{Ending, Clean, RefusedAt}
 use Rattle.ndp_walk.specs.Step.{Told, told}
 use Rattle.ndp_walk.proofs.Judging.{refusal-numbered}
 use Rattle.ndp_walk.proofs.Laws.{refused-there}
 use Rattle.ndp_options.specs.Rule.{rule}
-use Rattle.ndp_options.specs.Walk.{walk, endBy}
+use Rattle.ndp_options.specs.Walk.{walk}
+use Rattle.ndp_option_list.specs.Whole.{endBy}
 use Rattle.ndp_options.proofs.Rule.{numbered}
 
 module _ (s : List ℕ) where
   -- an answer is that of a clean walk

@@ -1,9 +1,9 @@
 -- `has_type` meets its contract: of what the whole walk comes to, the second number, which is 1 or 0.
 -- Assumes nothing.
-use Rattle.ndp_options.proofs.Whole.{answered, refused-whole}
+use Rattle.ndp_option_list.proofs.Whole.{answered, refused-whole}
 use Rattle.ndp_options.proofs.Steps.{refuses-some}
-use Rattle.ndp_options.specs.Walk.{bit, occursOf}
-use Rattle.ndp_options.specs.Told.{tallyTold}
+use Rattle.ndp_option_list.specs.Whole.{bit, occursOf}
+use Rattle.ndp_option_list.specs.Told.{tallyTold}
 use Rattle.paper.specs.Paper.{gives}
 use Rattle.ndp_walk.specs.Step.{told}
 use lib.ListN.{getD}
@@ -11,8 +11,8 @@ use Prim.Native.Nat.{ℕ}
 use mathlib.Core.List.{List, [], _∷_}
 use mathlib.Core.Path.{_≡_, sym, _∙_, ap}
 use borrow.Author.Needs.{needs}
-use Rattle.ndp_options.proofs.has_type.Statement.{statement}
-use Rattle.ndp_options.proofs.has_type.Tie as tie
+use Rattle.ndp_option_list.proofs.has_type.Statement.{statement}
+use Rattle.ndp_option_list.proofs.has_type.Tie as tie
 
 -- the arm of a clean walk
 whole : (c : tie.After-found) → told (gives (bit (c .found .given .0 .1 .0) ∷ [])) 0 ≡ occursOf (c .before .before .before .before .args .wanted .0) (c .before .before .before .before .args .options .now)

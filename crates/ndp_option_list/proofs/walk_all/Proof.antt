@@ -1,10 +1,11 @@
 -- `walk_all` meets its contract. The invariant: the cursor is within the bytes, no more options are counted than bytes passed, and the whole walk comes to
 -- what was found and what the walk from the cursor comes to. The measure is what is left of the bytes.
 -- Assumes nothing.
 use Rattle.ndp_options.proofs.Steps.{handed-on, ended-at, refused-at, not-stopped}
 use Rattle.ndp_options.specs.Told.{itemTold}
-use Rattle.ndp_options.specs.Walk.{walkFrom, endBy, occurs, bit, tallyOf}
+use Rattle.ndp_options.specs.Walk.{walkFrom}
+use Rattle.ndp_option_list.specs.Whole.{endBy, occurs, bit, tallyOf}
 use Rattle.ndp_options.specs.Rule.{rule}
 use Rattle.ndp_walk.proofs.Steps.{Onward}
 use Rattle.ndp_walk.specs.Step.{Told}
 use Rattle.ndp_walk.specs.Walk.{Item, Walk, then}
@@ -18,8 +19,8 @@ use native.Mathlib.Omega.{arith}
 use native.Mathlib.Nat.{add-zero, zero-add}
 use Prim.Native.Nat.{ℕ, _+_, _-_, _≤_}
 use mathlib.Core.Path.{_≡_, refl, _∙_, sym, ap}
-use Rattle.ndp_options.proofs.walk_all.Statement.{statement}
-use Rattle.ndp_options.proofs.walk_all.Tie as tie
+use Rattle.ndp_option_list.proofs.walk_all.Statement.{statement}
+use Rattle.ndp_option_list.proofs.walk_all.Tie as tie
 
 -- what was found, and what a walk comes to
 abbrev more : ℕ → ℕ → Bool → Walk → Told

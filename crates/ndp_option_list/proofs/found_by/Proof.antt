@@ -1,8 +1,8 @@
 -- `found_by` meets its contract: the test is whether it was found before.
 -- Assumes nothing.
 use borrow.Author.Needs.{needs}
-use Rattle.ndp_options.proofs.found_by.Statement.{statement}
-use Rattle.ndp_options.proofs.found_by.Tie as tie
+use Rattle.ndp_option_list.proofs.found_by.Statement.{statement}
+use Rattle.ndp_option_list.proofs.found_by.Tie as tie
 
 returns : tie.Need-returns
 returns c = search needs
