@@ -239,7 +239,7 @@ fn header_to_bytes(input: &[u8]) -> Vec<u64> {
 }
 
 fn advert_from_bytes(input: &[u8]) -> Vec<u64> {
-    let mut told = vec![0];
+    let mut told = vec![0, 134];
     told.extend(advert(RouterAdvertisementHeader::from_bytes(input.try_into().unwrap())));
     told
 }
@@ -329,43 +329,31 @@ fn redirected_header(input: &[u8]) -> Vec<u64> {
     }
 }
 
-/// For each option its type, place, length and the length of the rest after it; then how the walk ends.
+/// Step by step, each told as a number and values: an option is 0, 2, its type, place, length and the length of the rest after it; the end is 0, 0 and its
+/// place; a refusal is its number, what it carries, and its place.
 fn walk(input: &[u8]) -> Answer {
     let mut options = NdpOptionsIterator::from_slice(input);
-    let mut count = 0;
     let mut told = vec![];
     loop {
         let at = (input.len() - options.rest().len()) as u64;
-        let next = match stops(|| options.next()) {
-            Ok(next) => next,
+        match stops(|| options.next()) {
+            Ok(Some(Ok(option))) => {
+                told.extend([0, 2, option.option_type().0 as u64]);
+                told.extend(part(input, option.as_bytes()));
+                told.push(options.rest().len() as u64);
+                continue;
+            }
+            Ok(Some(Err(e))) => told.extend(refusal(e)),
+            Ok(None) => told.extend([0, 0]),
             Err(stop) => {
-                told.splice(0..0, [count]);
                 told.extend([input[at as usize] as u64, at, stop.len]);
                 return Answer::Told(Call::WalkToAbsent, told);
             }
-        };
-        match next {
-            Some(Ok(option)) => {
-                let bytes = option.as_bytes();
-                count += 1;
-                told.push(option.option_type().0 as u64);
-                told.extend(part(input, bytes));
-                told.push(options.rest().len() as u64);
-            }
-            end => {
-                told.splice(0..0, [count]);
-                match end {
-                    Some(Err(e)) => {
-                        told.extend(refusal(e));
-                        told.push(at);
-                    }
-                    _ => told.extend([0, at]),
-                }
-                assert!(options.rest().is_empty());
-                assert!(options.next().is_none());
-                return Answer::Told(Call::Walk, told);
-            }
         }
+        told.push(at);
+        assert!(options.rest().is_empty());
+        assert!(options.next().is_none());
+        return Answer::Told(Call::Walk, told);
     }
 }
 

@@ -1,4 +1,6 @@
-// What the library answers to each call of compare/FORMAT.md, as numbers in a lent buffer: how many bytes they take there.
+// The calls of compare/FORMAT.md: the name of each, and what the library answers.
+use crate::numbers;
+use crate::numbers::Told;
 use crate::options;
 use crate::types;
 use crate::walk;
@@ -28,22 +30,29 @@ pub fn write(text: &[u8]) {
     io::write_all(libc::STDOUT_FILENO, text);
 }
 
-pub fn answer(call: u8, input: &[u8], own: &mut [u8]) -> usize {
+fn told_by(call: u8, input: &[u8]) -> Told {
     match call {
-        1 => types::packet(input, own),
-        2 => types::icmp_type(input, own),
-        3 => types::header_to_bytes(input, own),
-        4 => types::router_from_bytes(input, own),
-        5 => types::router_to_bytes(input, own),
-        6 => options::header_from_slice(input, own),
-        7 => options::header_bytes(input, own),
-        8 => options::prefix_from_slice(input, own),
-        9 => options::prefix_from_bytes(input, own),
-        10 => options::prefix_to_bytes(input, own),
-        11 => options::mtu(input, own),
-        12 => options::redirected_header(input, own),
-        13 => walk::walk(input, own, false),
-        14 => walk::walk(input, own, true),
-        _ => 0,
+        1 => types::packet(input),
+        2 => types::icmp_type(input),
+        3 => types::header_to_bytes(input),
+        4 => types::router_from_bytes(input),
+        5 => types::router_to_bytes(input),
+        6 => options::header_from_slice(input),
+        7 => options::header_bytes(input),
+        8 => options::prefix_from_slice(input),
+        9 => options::prefix_from_bytes(input),
+        10 => options::prefix_to_bytes(input),
+        11 => options::mtu(input),
+        12 => options::redirected_header(input),
+        _ => numbers::nothing(),
+    }
+}
+
+// The place in a vector's answer up to which the library's own is met.
+pub fn met(call: u8, input: &[u8], answer: &[u8]) -> usize {
+    match call {
+        13 => walk::met(input, answer, false),
+        14 => walk::met(input, answer, true),
+        _ => numbers::met(answer, 0, told_by(call, input)),
     }
 }

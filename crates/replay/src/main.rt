@@ -56,19 +56,16 @@ fn note(counts: &mut [u64], call: u8, place: u64, equal: bool) {
 }
 
 // Whether the library's answer to a call is the one of the vector, whose input ends at a place of the body.
-fn is_answered(call: u8, body: &[u8], len: usize, own: &mut [u8]) -> bool {
+fn is_answered(call: u8, body: &[u8], len: usize) -> bool {
     if body.len() < len {
         return false;
     }
-    let n = answers::answer(call, &body[0..len], own);
-    if own.len() < n {
-        return false;
-    }
-    check::same(&own[0..n], &body[len..])
+    let answer = &body[len..];
+    answers::met(call, &body[0..len], answer) == answer.len()
 }
 
 // One vector: how many bytes it has. The stream ends before a vector with 0, and so does one that is not whole.
-fn turn(body: &mut [u8], own: &mut [u8], counts: &mut [u64], place: u64) -> usize {
+fn turn(body: &mut [u8], counts: &mut [u64], place: u64) -> usize {
     let mut head = [0; HEAD];
     let got = io::read_full(libc::STDIN_FILENO, &mut head);
     if got == 0 {
@@ -87,7 +84,7 @@ fn turn(body: &mut [u8], own: &mut [u8], counts: &mut [u64], place: u64) -> usiz
         return cut(place);
     }
     let call = head[0];
-    let equal = is_answered(call, &body[0..to], len, own);
+    let equal = is_answered(call, &body[0..to], len);
     note(counts, call, place, equal);
     HEAD + to
 }
@@ -120,11 +117,11 @@ fn line(counts: &[u64], call: u8) {
     answers::write(b"\n");
 }
 
-fn compare(body: &mut [u8], own: &mut [u8], counts: &mut [u64]) {
+fn compare(body: &mut [u8], counts: &mut [u64]) {
     let mut place: u64 = 0;
     let mut left = MOST;
     while 0 < left {
-        let n = turn(body, own, counts, place);
+        let n = turn(body, counts, place);
         place = std::num::wrapping_add_u64(place, n as u64);
         left = numbers::fewer(left, n != 0);
     }
@@ -138,8 +135,7 @@ fn report(counts: &[u64]) {
 
 fn main() {
     let mut body = [0; LONGEST];
-    let mut own = [0; LONGEST];
     let mut counts = [0; 96];
-    compare(&mut body, &mut own, &mut counts);
+    compare(&mut body, &mut counts);
     report(&counts);
 }

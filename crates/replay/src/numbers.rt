@@ -1,8 +1,47 @@
-// The numbers of an answer, four bytes each, high byte first, put into a lent buffer one after the other. Each function takes the
-// place of the next one and answers the place after it; what has no room, or is no number of four bytes, is not put.
-ghost use mathlib.Core.Path.{_≡_};
+// An answer as numbers, and how it is met in the bytes of a vector.
 ghost use Prim.Native.Nat.{_<_, _≤_};
 use refusal::Refusal;
+
+// The first `count` of the values are the answer; no single answer has more.
+pub struct Told {
+    pub count: usize,
+    pub values: [u64; 11],
+}
+
+// A place that no answer has: something before it was not met.
+const BEYOND: usize = 4294967295;
+
+// No answer at all: no vector has this.
+pub fn nothing() -> Told {
+    tell(0, 0, 0, 0, 0, 0, 0)
+}
+
+// An answer of up to six numbers.
+pub fn tell(count: usize, a: u64, b: u64, c: u64, d: u64, e: u64, f: u64) -> Told {
+    Told {
+        count,
+        values: [a, b, c, d, e, f, 0, 0, 0, 0, 0],
+    }
+}
+
+// A refusal: its number, and what it carries.
+pub fn refused(why: Refusal) -> Told {
+    let n = why.numbers();
+    let v = n.values;
+    tell(
+        std::num::wrapping_add_usize(n.count, 1),
+        n.number as u64,
+        v[0],
+        v[1],
+        v[2],
+        v[3],
+        0,
+    )
+}
+
+pub fn flag(set: bool) -> u64 {
+    if set { 1 } else { 0 }
+}
 
 // Two bytes, the high one first.
 pub fn word(high: u8, low: u8) -> usize
@@ -11,75 +50,54 @@ pub fn word(high: u8, low: u8) -> usize
     256 * high as usize + low as usize
 }
 
-fn put_byte(own: &mut [u8], at: usize, byte: u8) -> usize {
-    if at < own.len() {
-        own[at] = byte;
-        at + 1
-    } else {
-        at
-    }
-}
-
-pub fn put(own: &mut [u8], at: usize, n: u64) -> usize {
-    if 4294967295 < n {
-        return at;
-    }
-    let a = put_byte(own, at, (n / 16777216) as u8);
-    let b = put_byte(own, a, (n / 65536 % 256) as u8);
-    let c = put_byte(own, b, (n / 256 % 256) as u8);
-    put_byte(own, c, (n % 256) as u8)
-}
-
-pub fn put_flag(own: &mut [u8], at: usize, set: bool) -> usize {
-    put(own, at, if set { 1 } else { 0 })
-}
-
 // Four bytes as one number.
-pub fn put_bytes(own: &mut [u8], at: usize, b: [u8; 4]) -> usize {
-    put(own, at, wire::u32_from_be(b[0], b[1], b[2], b[3]) as u64)
+pub fn long(a: u8, b: u8, c: u8, d: u8) -> u64 {
+    wire::u32_from_be(a, b, c, d) as u64
 }
 
-// A part of the input: its place and its length.
-pub fn put_part(own: &mut [u8], at: usize, place: usize, len: usize) -> usize {
-    let next = put(own, at, place as u64);
-    put(own, next, len as u64)
+// The place behind a number that stands at a place of the answer's bytes, if it does.
+fn met_one(answer: &[u8], at: usize, n: u64) -> usize {
+    if answer.len() < 4 {
+        return BEYOND;
+    }
+    if answer.len() - 4 < at {
+        return BEYOND;
+    }
+    if long(answer[at], answer[at + 1], answer[at + 2], answer[at + 3]) == n {
+        at + 4
+    } else {
+        BEYOND
+    }
 }
 
-// What was handed back as the rest of the input, if it is that.
-pub fn put_rest(own: &mut [u8], at: usize, input: &[u8], rest: &[u8]) -> usize {
+// The place behind an answer whose numbers stand at a place.
+pub fn met(answer: &[u8], at: usize, t: Told) -> usize {
+    let values = t.values;
+    let count = t.count;
+    let mut to = at;
+    let mut i: usize = 0;
+    while i < 11 {
+        to = if i < count {
+            met_one(answer, to, values[i])
+        } else {
+            to
+        };
+        i = i + 1;
+    }
+    to
+}
+
+// Where a part that was handed back lies, if it is the rest of the input: else no place that a vector has.
+pub fn place_of(input: &[u8], rest: &[u8]) -> u64 {
     if input.len() < rest.len() {
-        return at;
+        return 4294967296;
     }
     let place = input.len() - rest.len();
     if check::same(&input[place..], rest) {
-        put_part(own, at, place, rest.len())
+        place as u64
     } else {
-        at
+        4294967296
     }
-}
-
-// Sixteen bytes in fours, each four as one number.
-pub fn put_sixteen(own: &mut [u8], at: usize, b: [u8; 16]) -> usize {
-    let next = put_bytes(own, at, [b[0], b[1], b[2], b[3]]);
-    let third = put_bytes(own, next, [b[4], b[5], b[6], b[7]]);
-    let last = put_bytes(own, third, [b[8], b[9], b[10], b[11]]);
-    put_bytes(own, last, [b[12], b[13], b[14], b[15]])
-}
-
-// A refusal: its number, and what it carries.
-pub fn put_refusal(own: &mut [u8], at: usize, r: Refusal) -> usize {
-    let told = r.numbers();
-    let values = told.values;
-    let count = told.count;
-    let a = put(own, at, told.number as u64);
-    let b = put_if(own, a, 0 < count, values[0]);
-    let c = put_if(own, b, 1 < count, values[1]);
-    let d = put_if(own, c, 2 < count, values[2]);
-    put_if(own, d, 3 < count, values[3])
-}
-
-fn put_if(own: &mut [u8], at: usize, has: bool, n: u64) -> usize {
-    if has { put(own, at, n) } else { at }
 }
 
 // How many turns a loop still has: none, where it does not go on.

@@ -1,6 +1,7 @@
 // The readers of single options.
 use crate::numbers;
-use crate::numbers::put;
+use crate::numbers::Told;
+use crate::numbers::tell;
 use ndp_option::mtu_option::MtuOption;
 use ndp_option::redirected_header_option;
 use ndp_option_header::HeaderRead;
@@ -9,198 +10,166 @@ use ndp_option_read::NdpOptionRead;
 use prefix_information::PrefixInformation;
 use prefix_information::PrefixInformationRead;
 
-fn put_header(own: &mut [u8], h: NdpOptionHeader) -> usize {
-    let a = put(own, 0, 0);
-    let b = put(own, a, h.option_type.0 as u64);
-    let c = put(own, b, h.length_units.0 as u64);
-    put(own, c, h.byte_len() as u64)
-}
-
-pub fn header_from_slice(input: &[u8], own: &mut [u8]) -> usize {
+pub fn header_from_slice(input: &[u8]) -> Told {
     match NdpOptionHeader::from_slice(input) {
         HeaderRead::Header(h) => {
-            let a = put_header(own, h);
-            numbers::put_rest(own, a, input, ndp_option_header::behind_header(input))
+            let rest = ndp_option_header::behind_header(input);
+            tell(
+                6,
+                0,
+                h.option_type.0 as u64,
+                h.length_units.0 as u64,
+                h.byte_len() as u64,
+                numbers::place_of(input, rest),
+                rest.len() as u64,
+            )
         }
-        HeaderRead::Refused(why) => numbers::put_refusal(own, 0, why),
+        HeaderRead::Refused(why) => numbers::refused(why),
     }
 }
 
-pub fn header_bytes(input: &[u8], own: &mut [u8]) -> usize {
+pub fn header_bytes(input: &[u8]) -> Told {
     if input.len() != 2 {
-        return 0;
+        return numbers::nothing();
     }
     let h = NdpOptionHeader::from_bytes([input[0], input[1]]);
-    let a = put_header(own, h);
-    let bytes = h.to_bytes();
-    let b = put(own, a, bytes[0] as u64);
-    put(own, b, bytes[1] as u64)
-}
-
-fn put_prefix(own: &mut [u8], read: PrefixInformationRead) -> usize {
-    let answer = read.answer;
-    let p = read.information;
-    match answer {
-        NdpOptionRead::Refused(why) => numbers::put_refusal(own, 0, why),
-        NdpOptionRead::Accepted => {
-            let a = put(own, 0, 0);
-            let b = put(own, a, p.prefix_length as u64);
-            let c = numbers::put_flag(own, b, p.on_link);
-            let d = numbers::put_flag(own, c, p.autonomous_address_configuration);
-            let e = put(own, d, p.valid_lifetime as u64);
-            let f = put(own, e, p.preferred_lifetime as u64);
-            let prefix = p.prefix;
-            numbers::put_sixteen(own, f, prefix)
-        }
-    }
-}
-
-pub fn prefix_from_slice(input: &[u8], own: &mut [u8]) -> usize {
-    put_prefix(own, PrefixInformation::from_slice(input))
-}
-
-pub fn prefix_from_bytes(input: &[u8], own: &mut [u8]) -> usize {
-    if input.len() != 32 {
-        return 0;
-    }
-    let bytes = [
-        input[0],
-        input[1],
-        input[2],
-        input[3],
-        input[4],
-        input[5],
-        input[6],
-        input[7],
-        input[8],
-        input[9],
-        input[10],
-        input[11],
-        input[12],
-        input[13],
-        input[14],
-        input[15],
-        input[16],
-        input[17],
-        input[18],
-        input[19],
-        input[20],
-        input[21],
-        input[22],
-        input[23],
-        input[24],
-        input[25],
-        input[26],
-        input[27],
-        input[28],
-        input[29],
-        input[30],
-        input[31],
-    ];
-    put_prefix(own, PrefixInformation::from_bytes(bytes))
-}
-
-// The first byte is told as 0: the vectors leave it out.
-pub fn prefix_to_bytes(input: &[u8], own: &mut [u8]) -> usize {
-    if input.len() != 27 {
-        return 0;
-    }
-    let p = PrefixInformation {
-        prefix_length: input[0],
-        on_link: input[1] != 0,
-        autonomous_address_configuration: input[2] != 0,
-        valid_lifetime: wire::u32_from_be(input[3], input[4], input[5], input[6]),
-        preferred_lifetime: wire::u32_from_be(input[7], input[8], input[9], input[10]),
-        prefix: [
-            input[11],
-            input[12],
-            input[13],
-            input[14],
-            input[15],
-            input[16],
-            input[17],
-            input[18],
-            input[19],
-            input[20],
-            input[21],
-            input[22],
-            input[23],
-            input[24],
-            input[25],
-            input[26],
-        ],
-    };
-    let b = p.to_bytes();
-    let first = put(own, 0, 0);
-    let next = numbers::put_sixteen(
-        own,
-        first,
-        [
-            0,
-            b[1],
-            b[2],
-            b[3],
-            b[4],
-            b[5],
-            b[6],
-            b[7],
-            b[8],
-            b[9],
-            b[10],
-            b[11],
-            b[12],
-            b[13],
-            b[14],
-            b[15],
-        ],
-    );
-    numbers::put_sixteen(
-        own,
-        next,
-        [
-            b[16],
-            b[17],
-            b[18],
-            b[19],
-            b[20],
-            b[21],
-            b[22],
-            b[23],
-            b[24],
-            b[25],
-            b[26],
-            b[27],
-            b[28],
-            b[29],
-            b[30],
-            b[31],
-        ],
+    let b = h.to_bytes();
+    tell(
+        6,
+        0,
+        h.option_type.0 as u64,
+        h.length_units.0 as u64,
+        h.byte_len() as u64,
+        b[0] as u64,
+        b[1] as u64,
     )
 }
 
-pub fn mtu(input: &[u8], own: &mut [u8]) -> usize {
-    match MtuOption::from_slice(input) {
-        MtuOption::Mtu(mtu) => {
-            let a = put(own, 0, 0);
-            let b = put(own, a, 5);
-            put(own, b, mtu as u64)
-        }
-        MtuOption::Refused(why) => numbers::put_refusal(own, 0, why),
+fn information_told(p: PrefixInformation) -> Told {
+    let b = p.prefix;
+    Told {
+        count: 10,
+        values: [
+            0,
+            p.prefix_length as u64,
+            numbers::flag(p.on_link),
+            numbers::flag(p.autonomous_address_configuration),
+            p.valid_lifetime as u64,
+            p.preferred_lifetime as u64,
+            numbers::long(b[0], b[1], b[2], b[3]),
+            numbers::long(b[4], b[5], b[6], b[7]),
+            numbers::long(b[8], b[9], b[10], b[11]),
+            numbers::long(b[12], b[13], b[14], b[15]),
+            0,
+        ],
     }
 }
 
-pub fn redirected_header(input: &[u8], own: &mut [u8]) -> usize {
+fn prefix_told(read: PrefixInformationRead) -> Told {
+    let answer = read.answer;
+    match answer {
+        NdpOptionRead::Refused(why) => numbers::refused(why),
+        NdpOptionRead::Accepted => information_told(read.information),
+    }
+}
+
+pub fn prefix_from_slice(input: &[u8]) -> Told {
+    prefix_told(PrefixInformation::from_slice(input))
+}
+
+// The bytes of a slice from a place on, and 0 past its end.
+fn bytes_from(s: &[u8], place: usize) -> [u8; 32] {
+    let mut bytes = [0; 32];
+    let mut i: usize = 0;
+    while i < 32 {
+        bytes[i] = byte_at(s, std::num::wrapping_add_usize(place, i));
+        i = i + 1;
+    }
+    bytes
+}
+
+fn byte_at(s: &[u8], i: usize) -> u8 {
+    if i < s.len() { s[i] } else { 0 }
+}
+
+pub fn prefix_from_bytes(input: &[u8]) -> Told {
+    prefix_told(PrefixInformation::from_bytes(bytes_from(input, 0)))
+}
+
+// Prefix length, both flags, both lifetimes, the prefix: 27 bytes.
+fn information_of(v: &[u8]) -> PrefixInformation {
+    let b = bytes_from(v, 0);
+    let p = bytes_from(v, 11);
+    PrefixInformation {
+        prefix_length: b[0],
+        on_link: b[1] != 0,
+        autonomous_address_configuration: b[2] != 0,
+        valid_lifetime: wire::u32_from_be(b[3], b[4], b[5], b[6]),
+        preferred_lifetime: wire::u32_from_be(b[7], b[8], b[9], b[10]),
+        prefix: [
+            p[0],
+            p[1],
+            p[2],
+            p[3],
+            p[4],
+            p[5],
+            p[6],
+            p[7],
+            p[8],
+            p[9],
+            p[10],
+            p[11],
+            p[12],
+            p[13],
+            p[14],
+            p[15],
+        ],
+    }
+}
+
+// The first byte is told as 0: the vectors leave it out.
+pub fn prefix_to_bytes(input: &[u8]) -> Told {
+    let p = information_of(input);
+    let b = p.to_bytes();
+    Told {
+        count: 9,
+        values: [
+            0,
+            numbers::long(0, b[1], b[2], b[3]),
+            numbers::long(b[4], b[5], b[6], b[7]),
+            numbers::long(b[8], b[9], b[10], b[11]),
+            numbers::long(b[12], b[13], b[14], b[15]),
+            numbers::long(b[16], b[17], b[18], b[19]),
+            numbers::long(b[20], b[21], b[22], b[23]),
+            numbers::long(b[24], b[25], b[26], b[27]),
+            numbers::long(b[28], b[29], b[30], b[31]),
+            0,
+            0,
+        ],
+    }
+}
+
+pub fn mtu(input: &[u8]) -> Told {
+    match MtuOption::from_slice(input) {
+        MtuOption::Mtu(mtu) => tell(3, 0, 5, mtu as u64, 0, 0, 0),
+        MtuOption::Refused(why) => numbers::refused(why),
+    }
+}
+
+pub fn redirected_header(input: &[u8]) -> Told {
     match redirected_header_option::from_slice(input) {
         NdpOptionRead::Accepted => {
-            let a = put(own, 0, 0);
-            let b = put(own, a, 4);
-            numbers::put_rest(
-                own,
-                b,
-                input,
-                redirected_header_option::redirected_packet(input),
+            let packet = redirected_header_option::redirected_packet(input);
+            tell(
+                4,
+                0,
+                4,
+                numbers::place_of(input, packet),
+                packet.len() as u64,
+                0,
+                0,
             )
         }
-        NdpOptionRead::Refused(why) => numbers::put_refusal(own, 0, why),
+        NdpOptionRead::Refused(why) => numbers::refused(why),
     }
 }

@@ -1,55 +1,102 @@
-// The option walk, step by step.
+// The option walk, step by step, met in the answer as it goes.
 use crate::numbers;
-use crate::numbers::put;
+use crate::numbers::Told;
+use crate::numbers::tell;
 use ndp_options::Cursor;
 use ndp_options::NdpOption;
 use ndp_options::Step;
 use refusal::Refusal;
 
-// Where the walk and the answer stand, how many options were handed out, and whether to go on.
+// The walk's place, the place in the answer up to which it was met, and whether to go on.
 struct Walking {
     place: usize,
-    put: usize,
-    count: u64,
+    met: usize,
     going: bool,
 }
 
 // More steps than any vector's bytes have.
 const MOST: u64 = 65536;
 
-// Type, place and length of an option, this of the bytes that are handed back, and the length of the rest behind it.
-fn put_option(own: &mut [u8], at: usize, input: &[u8], o: NdpOption, next: Cursor) -> usize {
-    let a = put_place(own, at, input, o);
-    put(own, a, next.rest(input).len() as u64)
+// An option: type, place and length, this of the bytes that are handed back, and the length of the rest behind it.
+fn handed(input: &[u8], o: NdpOption, next: Cursor) -> Told {
+    tell(
+        6,
+        0,
+        2,
+        o.option_type.0 as u64,
+        o.at as u64,
+        o.bytes(input).len() as u64,
+        next.rest(input).len() as u64,
+    )
 }
 
-fn put_place(own: &mut [u8], at: usize, input: &[u8], o: NdpOption) -> usize {
-    let a = put(own, at, o.option_type.0 as u64);
-    numbers::put_part(own, a, o.at, o.bytes(input).len())
-}
-
-// A refusal and its place. After it the rest is empty and a step is Stopped; if not, one number more makes the answer another.
-fn put_refused(
-    own: &mut [u8],
-    at: usize,
-    input: &[u8],
-    why: Refusal,
-    place: usize,
-    next: Cursor,
-) -> usize {
-    let a = numbers::put_refusal(own, at, why);
-    let b = put(own, a, place as u64);
-    let c = put(own, b, 0);
+// Whether the rest after a refusal is empty, and a step there Stopped.
+fn is_stopped(input: &[u8], next: Cursor) -> bool {
     if next.rest(input).len() != 0 {
-        return c;
+        return false;
     }
     match next.step(input) {
-        Step::Stopped => b,
-        _ => c,
+        Step::Stopped => true,
+        _ => false,
     }
 }
 
-// The options whose readers the excerpt has.
+fn last(answer: &[u8], w: Walking, t: Told) -> Walking {
+    Walking {
+        place: w.place,
+        met: numbers::met(answer, w.met, t),
+        going: false,
+    }
+}
+
+fn step(input: &[u8], answer: &[u8], w: Walking) -> Walking {
+    let place = w.place;
+    let cursor = Cursor { at: place };
+    match cursor.step(input) {
+        Step::Handed(o, next) => Walking {
+            place: next.at,
+            met: numbers::met(answer, w.met, handed(input, o, next)),
+            going: true,
+        },
+        Step::End => last(answer, w, tell(3, 0, 0, place as u64, 0, 0, 0)),
+        Step::Refused(why, next) => {
+            if !is_stopped(input, next) {
+                return last(answer, w, numbers::nothing());
+            }
+            let refused = last(answer, w, numbers::refused(why));
+            last(answer, refused, tell(1, place as u64, 0, 0, 0, 0, 0))
+        }
+        Step::Stopped => last(answer, w, numbers::nothing()),
+    }
+}
+
+// What the absent reader of an option was given: type, place and length.
+fn given(input: &[u8], o: NdpOption) -> Told {
+    tell(
+        3,
+        o.option_type.0 as u64,
+        o.at as u64,
+        o.bytes(input).len() as u64,
+        0,
+        0,
+        0,
+    )
+}
+
+// The same of a prefix option that document 01's rule, which comes after, refuses with that length.
+fn given_misfit(why: Refusal, place: usize) -> Told {
+    let n = why.numbers();
+    let v = n.values;
+    if n.number != 5 {
+        return numbers::nothing();
+    }
+    if v[1] != 32 {
+        return numbers::nothing();
+    }
+    tell(3, v[0], place as u64, v[2], 0, 0, 0)
+}
+
+// Whether the excerpt has the reader of an option.
 fn has_reader(o: NdpOption) -> bool {
     let id = o.option_type;
     match id.0 {
@@ -58,84 +105,40 @@ fn has_reader(o: NdpOption) -> bool {
     }
 }
 
-fn step(input: &[u8], own: &mut [u8], w: Walking) -> Walking {
-    let place = w.place;
-    let cursor = Cursor { at: place };
-    match cursor.step(input) {
-        Step::Handed(o, next) => Walking {
-            place: next.at,
-            put: put_option(own, w.put, input, o, next),
-            count: std::num::wrapping_add_u64(w.count, 1),
-            going: true,
-        },
-        Step::End => {
-            let a = put(own, w.put, 0);
-            ended(w, put(own, a, place as u64))
-        }
-        Step::Refused(why, next) => ended(w, put_refused(own, w.put, input, why, place, next)),
-        Step::Stopped => ended(w, 0),
-    }
-}
-
-fn ended(w: Walking, put: usize) -> Walking {
-    Walking {
-        place: w.place,
-        put,
-        count: w.count,
-        going: false,
-    }
-}
-
-// Type, place and length that the absent reader of a prefix option was given: document 01's rule comes after it, and refuses with that length.
-fn put_misfit(own: &mut [u8], at: usize, why: Refusal, place: usize) -> usize {
-    let told = why.numbers();
-    let values = told.values;
-    if told.number != 5 {
-        return 0;
-    }
-    if values[1] != 32 {
-        return 0;
-    }
-    let a = put(own, at, values[0]);
-    let b = put(own, a, place as u64);
-    put(own, b, values[2])
-}
-
-// A step of a walk that is compared up to the first option whose reader the excerpt does not have: what that reader was given.
-fn step_to_absent(input: &[u8], own: &mut [u8], w: Walking) -> Walking {
+// A step of a walk that is compared up to the first option whose reader the excerpt does not have.
+fn step_to_absent(input: &[u8], answer: &[u8], w: Walking) -> Walking {
     let place = w.place;
     let cursor = Cursor { at: place };
     match cursor.step(input) {
         Step::Handed(o, _) => {
             if has_reader(o) {
-                return step(input, own, w);
+                return step(input, answer, w);
             }
-            ended(w, put_place(own, w.put, input, o))
+            last(answer, w, given(input, o))
         }
-        Step::Refused(why, _) => ended(w, put_misfit(own, w.put, why, place)),
-        _ => ended(w, 0),
+        Step::Refused(why, _) => last(answer, w, given_misfit(why, place)),
+        _ => last(answer, w, numbers::nothing()),
     }
 }
 
-fn next(input: &[u8], own: &mut [u8], w: Walking, to_absent: bool) -> Walking {
+fn next(input: &[u8], answer: &[u8], w: Walking, to_absent: bool) -> Walking {
     if to_absent {
-        return step_to_absent(input, own, w);
+        return step_to_absent(input, answer, w);
     }
-    step(input, own, w)
+    step(input, answer, w)
 }
 
-pub fn walk(input: &[u8], own: &mut [u8], to_absent: bool) -> usize {
+// The place in the answer up to which the walk was met.
+pub fn met(input: &[u8], answer: &[u8], to_absent: bool) -> usize {
     let mut w = Walking {
         place: 0,
-        put: 4,
-        count: 0,
+        met: 0,
         going: true,
     };
     let mut left = MOST;
     while 0 < left {
-        w = next(input, own, w, to_absent);
+        w = next(input, answer, w, to_absent);
         left = numbers::fewer(left, w.going);
     }
-    put(own, 0, w.count);
-    w.put
+    w.met
 }

@@ -7,11 +7,11 @@ use Rattle.replay.proofs.compare.Statement.{statement}
 use Rattle.replay.proofs.compare.Tie as tie
 
 abbrev Inv-loop : tie.InvT-loop
-Inv-loop body₀ own₀ counts₀ place₀ left₀ body own counts place left =
-    (length body ≡ length body₀) × (length own ≡ length own₀) × (length counts ≡ length counts₀)
+Inv-loop body₀ counts₀ place₀ left₀ body counts place left =
+    (length body ≡ length body₀) × (length counts ≡ length counts₀)
 
 abbrev μ-loop : tie.MeasureT-loop
-μ-loop body₀ own₀ counts₀ place₀ left₀ body own counts place left = left
+μ-loop body₀ counts₀ place₀ left₀ body counts place left = left
 
 loop-holds : tie.Need-loop-holds Inv-loop μ-loop
 loop-holds c = search needs
@@ -37,9 +37,6 @@ same-length c = search needs
 same-length-2 : tie.Need-same-length-2 Inv-loop μ-loop
 same-length-2 c = search needs
 
-same-length-3 : tie.Need-same-length-3 Inv-loop μ-loop
-same-length-3 c = search needs
-
 returns : tie.Need-returns Inv-loop μ-loop
 returns c = search needs
 
@@ -57,5 +54,4 @@ compare-spec =
     loop-again
     same-length
     same-length-2
-    same-length-3
     returns)
