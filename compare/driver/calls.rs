@@ -30,6 +30,29 @@ pub enum Call {
     RedirectPayload = 20,
 }
 
+const CALLS: [Call; 20] = [
+    Call::Packet,
+    Call::Type,
+    Call::HeaderToBytes,
+    Call::AdvertFromBytes,
+    Call::AdvertToBytes,
+    Call::OptionHeaderFromSlice,
+    Call::OptionHeaderBytes,
+    Call::PrefixFromSlice,
+    Call::PrefixFromBytes,
+    Call::PrefixToBytes,
+    Call::Mtu,
+    Call::RedirectedHeader,
+    Call::Walk,
+    Call::WalkToAbsent,
+    Call::PayloadOfType,
+    Call::PayloadOfTypeToAbsent,
+    Call::PayloadOfPacket,
+    Call::PayloadOfPacketToAbsent,
+    Call::AdvertPayload,
+    Call::RedirectPayload,
+];
+
 pub enum Answer {
     Told(Call, Vec<u64>),
     Absent(String),
@@ -62,6 +85,35 @@ fn stops<T>(run: impl FnOnce() -> T) -> Result<T, Absent> {
 }
 
 impl Call {
+    pub fn from_number(n: u8) -> Option<Call> {
+        CALLS.into_iter().find(|call| *call as u8 == n)
+    }
+
+    pub fn name(self) -> &'static str {
+        match self {
+            Call::Packet => "Icmpv6Slice",
+            Call::Type => "Icmpv6Slice::icmp_type",
+            Call::HeaderToBytes => "Icmpv6Header::to_bytes",
+            Call::AdvertFromBytes => "RouterAdvertisementHeader::from_bytes",
+            Call::AdvertToBytes => "RouterAdvertisementHeader::to_bytes",
+            Call::OptionHeaderFromSlice => "NdpOptionHeader::from_slice",
+            Call::OptionHeaderBytes => "NdpOptionHeader::from_bytes, to_bytes, byte_len",
+            Call::PrefixFromSlice => "PrefixInformation::from_slice",
+            Call::PrefixFromBytes => "PrefixInformation::from_bytes",
+            Call::PrefixToBytes => "PrefixInformation::to_bytes",
+            Call::Mtu => "MtuOptionSlice",
+            Call::RedirectedHeader => "RedirectedHeaderOptionSlice",
+            Call::Walk => "NdpOptionsIterator",
+            Call::WalkToAbsent => "NdpOptionsIterator up to an absent reader",
+            Call::PayloadOfType => "Icmpv6PayloadSlice::from_slice",
+            Call::PayloadOfTypeToAbsent => "Icmpv6PayloadSlice::from_slice up to an absent reader",
+            Call::PayloadOfPacket => "Icmpv6Slice::payload_slice",
+            Call::PayloadOfPacketToAbsent => "Icmpv6Slice::payload_slice up to an absent reader",
+            Call::AdvertPayload => "RouterAdvertisementPayloadSlice",
+            Call::RedirectPayload => "RedirectPayloadSlice",
+        }
+    }
+
     pub fn run(self, input: &[u8]) -> Answer {
         let told = stops(|| match self {
             Call::Packet => packet(input),
@@ -357,56 +409,63 @@ fn walk(input: &[u8]) -> Answer {
     }
 }
 
+/// The kind of a payload, the length of its fixed part, how many bytes are behind it, and the fields of the fixed part.
+fn payload_told(payload: &[u8], kind: u64, behind: &[u8], fields: Vec<u64>) -> Vec<u64> {
+    let mut told = vec![0, kind];
+    told.extend(part(payload, behind));
+    told.extend(fields);
+    told
+}
+
+fn advert_told(payload: &[u8], s: &RouterAdvertisementPayloadSlice) -> Vec<u64> {
+    assert_eq!(s.slice(), payload);
+    assert_eq!(s.options(), s.options_iterator().rest());
+    let (fixed, options) = s.to_payload();
+    let fields = vec![fixed.reachable_time as u64, fixed.retrans_timer as u64];
+    payload_told(payload, 134, options, fields)
+}
+
+fn redirect_told(payload: &[u8], s: &RedirectPayloadSlice) -> Vec<u64> {
+    assert_eq!(s.slice(), payload);
+    assert_eq!(s.options(), s.options_iterator().rest());
+    let (fixed, options) = s.to_payload();
+    let mut fields = words(&fixed.target_address.octets());
+    fields.extend(words(&fixed.destination_address.octets()));
+    payload_told(payload, 137, options, fields)
+}
+
 fn advert_payload(input: &[u8]) -> Vec<u64> {
     match RouterAdvertisementPayloadSlice::from_slice(input) {
         Err(e) => short(4, e),
-        Ok(s) => {
-            assert_eq!(s.slice(), input);
-            let (fixed, options) = s.to_payload();
-            assert_eq!(options, s.options_iterator().rest());
-            let mut told = vec![0, fixed.reachable_time as u64, fixed.retrans_timer as u64];
-            told.extend(part(input, options));
-            told
-        }
+        Ok(s) => advert_told(input, &s),
     }
 }
 
 fn redirect_payload(input: &[u8]) -> Vec<u64> {
     match RedirectPayloadSlice::from_slice(input) {
         Err(e) => short(4, e),
-        Ok(s) => {
-            assert_eq!(s.slice(), input);
-            let (fixed, options) = s.to_payload();
-            assert_eq!(options, s.options_iterator().rest());
-            let mut told = vec![0];
-            told.extend(words(&fixed.target_address.octets()));
-            told.extend(words(&fixed.destination_address.octets()));
-            told.extend(part(input, options));
-            told
-        }
+        Ok(s) => redirect_told(input, &s),
     }
 }
 
-/// The kind that a dispatch chose, and the part of the input behind its fixed part.
-fn chosen(input: &[u8], dispatched: Result<Icmpv6PayloadSlice, LenError>) -> Vec<u64> {
-    match dispatched {
-        Err(e) => short(4, e),
-        Ok(s) => {
-            let (kind, behind) = match &s {
-                Icmpv6PayloadSlice::RouterAdvertisement(p) => (134, p.options()),
-                Icmpv6PayloadSlice::Redirect(p) => (137, p.options()),
-                Icmpv6PayloadSlice::Raw(p) => (0, *p),
-                other => unreachable!("{other:?}"),
-            };
-            match s.to_payload() {
-                Some((_, rest)) => assert_eq!(rest, behind),
-                None => assert_eq!(kind, 0),
-            }
-            let mut told = vec![0, kind];
-            told.extend(part(input, s.slice()));
-            told.extend(part(input, behind));
-            told
+/// What a dispatch chose for a payload.
+fn chosen(payload: &[u8], dispatched: Result<Icmpv6PayloadSlice, LenError>) -> Vec<u64> {
+    let s = match dispatched {
+        Err(e) => return short(4, e),
+        Ok(s) => s,
+    };
+    assert_eq!(s.slice(), payload);
+    match (&s, s.to_payload()) {
+        (Icmpv6PayloadSlice::RouterAdvertisement(p), Some((_, rest))) => {
+            assert_eq!(rest, p.options());
+            advert_told(payload, p)
         }
+        (Icmpv6PayloadSlice::Redirect(p), Some((_, rest))) => {
+            assert_eq!(rest, p.options());
+            redirect_told(payload, p)
+        }
+        (Icmpv6PayloadSlice::Raw(p), None) => payload_told(payload, 0, p, vec![]),
+        other => unreachable!("{other:?}"),
     }
 }
 
@@ -450,7 +509,7 @@ fn payload_of_packet(input: &[u8]) -> Answer {
         Call::PayloadOfPacketToAbsent,
         stops(|| match Icmpv6Slice::from_slice(input) {
             Err(e) => short(1, e),
-            Ok(s) => chosen(input, s.payload_slice()),
+            Ok(s) => chosen(s.payload(), s.payload_slice()),
         }),
     )
 }

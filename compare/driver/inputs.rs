@@ -87,7 +87,28 @@ fn reader_calls(sink: &mut Sink, option: &[u8]) {
     }
 }
 
-pub fn all(sink: &mut Sink, captures: &[Vec<u8>]) {
+/// Lines of published.txt: a call, the input in hexadecimal, and the numbers of the answer; `#` begins a remark.
+pub fn published(sink: &mut Sink, text: &str) {
+    for line in text.lines() {
+        let line = line.split('#').next().unwrap();
+        if line.trim().is_empty() {
+            continue;
+        }
+        let [call, input, answer] = line.split('|').collect::<Vec<_>>()[..] else {
+            panic!("{line}")
+        };
+        let digits: String = input.split_whitespace().collect();
+        let bytes: Vec<u8> = (0..digits.len())
+            .step_by(2)
+            .map(|i| u8::from_str_radix(&digits[i..i + 2], 16).unwrap())
+            .collect();
+        let numbers = answer.split_whitespace().map(|n| n.parse().unwrap()).collect();
+        let call = Call::from_number(call.trim().parse().unwrap()).unwrap();
+        sink.published(call, &bytes, numbers);
+    }
+}
+
+pub fn all(sink: &mut Sink) {
     short(sink);
     lists(sink);
     heads(sink);
@@ -96,9 +117,6 @@ pub fn all(sink: &mut Sink, captures: &[Vec<u8>]) {
     readers(sink);
     prefixes(sink);
     walks(sink);
-    for capture in captures {
-        traffic(sink, capture);
-    }
 }
 
 /// Every input of no, one and two bytes, to every call that takes any.
@@ -149,24 +167,21 @@ fn option(list: &mut Vec<u8>, id: u8, units: u8) {
 const OPEN: [(u8, u8); 3] = [(4, 1), (4, 2), (5, 1)];
 
 /// All lists of up to three options over the types and units above, each whole, cut short by one byte and by seven, and with one, two and eight bytes more.
-/// A sample keeps those in which the excerpt's answer depends on the last option: all before it are of the three above.
+/// A sample keeps those in which the excerpt's answer depends on the last option and on what is behind it: all before are of the three above.
 fn lists(sink: &mut Sink) {
     fn extend(sink: &mut Sink, list: &[u8], kept: bool, open: bool, more_options: usize) {
-        sink.every(kept as u64);
+        let mut walks = |kept: bool, tailed: &[Vec<u8>]| {
+            sink.every(kept as u64);
+            for list in tailed {
+                if sink.wants() {
+                    sink.run(Call::Walk, list);
+                }
+            }
+        };
         let cut = |n: usize| list[..list.len() - n.min(list.len())].to_vec();
         let more = |tail: &[u8]| [list, tail].concat();
-        for tailed in [
-            list.to_vec(),
-            cut(1),
-            cut(7),
-            more(&[5]),
-            more(&[5, 0]),
-            more(&[5, 1, 0, 0, 0, 0, 5, 0]),
-        ] {
-            if sink.wants() {
-                sink.run(Call::Walk, &tailed);
-            }
-        }
+        walks(kept, &[list.to_vec(), cut(1), cut(7)]);
+        walks(open, &[more(&[5]), more(&[5, 0]), more(&[5, 1, 0, 0, 0, 0, 5, 0])]);
         if more_options == 0 {
             return;
         }
@@ -427,7 +442,7 @@ fn walks(sink: &mut Sink) {
 }
 
 /// The packets of a capture in document 01's record format, their option lists, and each option by itself.
-fn traffic(sink: &mut Sink, capture: &[u8]) {
+pub fn traffic(sink: &mut Sink, capture: &[u8]) {
     let mut rest = capture;
     sink.every(6);
     while let Some((head, after)) = rest.split_at_checked(37) {

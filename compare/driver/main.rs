@@ -1,8 +1,9 @@
 //! Runs the excerpt of etherparse 0.21.0 and writes what it answers as vectors (FORMAT.md) on standard output.
 //!
-//!     vectors full [CAPTURE..]      everything
-//!     vectors sample [CAPTURE..]    the sample that the repository keeps
-//!     vectors limits                the two limits above 65,535 bytes, as text
+//!     vectors full PUBLISHED [CAPTURE..]      everything
+//!     vectors sample PUBLISHED [CAPTURE..]    the sample that the repository keeps
+//!     vectors damaged PUBLISHED [CAPTURE..]   the sample, each answer with one bit turned round
+//!     vectors limits                          the two limits above 65,535 bytes, as text
 //!
 //! The count of each call, and of the calls that stopped at an absent file, goes to standard error.
 
@@ -10,7 +11,7 @@ mod calls;
 mod inputs;
 mod sink;
 
-use sink::Sink;
+use sink::{Mode, Sink};
 use std::env;
 
 fn main() {
@@ -20,15 +21,24 @@ fn main() {
         }
     }));
     let args: Vec<String> = env::args().skip(1).collect();
-    let captures: Vec<Vec<u8>> = args
-        .iter()
-        .skip(1)
-        .map(|path| std::fs::read(path).unwrap_or_else(|e| panic!("{path}: {e}")))
-        .collect();
-    match args.first().map(String::as_str) {
-        Some("full") => inputs::all(&mut Sink::new(false), &captures),
-        Some("sample") => inputs::all(&mut Sink::new(true), &captures),
-        Some("limits") => calls::limits(),
-        _ => eprintln!("vectors full|sample|limits [CAPTURE..]"),
+    match args.iter().map(String::as_str).collect::<Vec<_>>()[..] {
+        [mode @ ("full" | "sample" | "damaged"), published, ref captures @ ..] => {
+            let mut sink = Sink::new(match mode {
+                "full" => Mode::Full,
+                "sample" => Mode::Sample,
+                _ => Mode::Damaged,
+            });
+            inputs::published(&mut sink, &String::from_utf8(read(published)).unwrap());
+            inputs::all(&mut sink);
+            for capture in captures {
+                inputs::traffic(&mut sink, &read(capture));
+            }
+        }
+        ["limits"] => calls::limits(),
+        _ => eprintln!("vectors full|sample|damaged PUBLISHED [CAPTURE..], or vectors limits"),
     }
+}
+
+fn read(path: &str) -> Vec<u8> {
+    std::fs::read(path).unwrap_or_else(|e| panic!("{path}: {e}"))
 }
