@@ -199,7 +199,10 @@ fn refusal(e: NdpOptionReadError) -> Vec<u64> {
 
 fn packet(input: &[u8]) -> Vec<u64> {
     match Icmpv6Slice::from_slice(input) {
-        Err(e) => short(1, e),
+        Err(e) => {
+            assert_eq!(Icmpv6Header::from_slice(input).unwrap_err(), e);
+            short(1, e)
+        }
         Ok(s) => {
             assert_eq!(s.slice(), input);
             assert_eq!(s.header_len(), 8);
@@ -514,19 +517,44 @@ fn payload_of_packet(input: &[u8]) -> Answer {
     )
 }
 
-/// Refusals 2 and 3: a packet and a payload that are one byte too long, of memory that nothing ever touches.
-pub fn limits() {
+/// What no vector holds, as text: refusals 2 and 3, of a packet and a payload that are one byte too long (memory that nothing ever touches), and the
+/// calls that stop at an absent file on every input that they do not refuse.
+pub fn others() {
     let long = vec![0u8; u32::MAX as usize + 1];
+    let most = &long[1..];
     let e = Icmpv6Slice::from_slice(&long).unwrap_err();
-    println!("2 {} {}", e.required_len, e.len);
-    println!("0 {}", Icmpv6Slice::from_slice(&long[1..]).unwrap().slice().len());
-    let payload = &long[..u32::MAX as usize - 7];
+    println!("Icmpv6Slice::from_slice: 2 {} {}", e.required_len, e.len);
+    assert_eq!(Icmpv6Slice::from_slice(most).unwrap().slice().len(), u32::MAX as usize);
     let e = Icmpv6Type::Redirect
-        .calc_checksum([0; 16], [0; 16], payload)
+        .calc_checksum([0; 16], [0; 16], &most[..most.len() - 7])
         .unwrap_err();
-    println!("3 {} {}", e.max_allowed, e.actual);
-    match stops(|| Icmpv6Type::Redirect.calc_checksum([0; 16], [0; 16], &payload[1..])) {
-        Ok(_) => unreachable!(),
-        Err(at) => println!("0 absent {}", at.what),
+    println!("Icmpv6Type::calc_checksum: 3 {} {}", e.max_allowed, e.actual);
+
+    let packet = Icmpv6Slice::from_slice(&long[..8]).unwrap();
+    let longest = &most[..most.len() - 8];
+    let (a, b) = ([0; 16], [0; 16]);
+    let mut header = Icmpv6Header::new(Icmpv6Type::Redirect);
+    stopped("Icmpv6Slice::checksum", || packet.checksum());
+    stopped("Icmpv6Slice::header", || packet.header());
+    stopped("Icmpv6Header::from_slice", || Icmpv6Header::from_slice(&long[..8]));
+    stopped("Icmpv6Slice::is_checksum_valid", || packet.is_checksum_valid(a, b));
+    stopped("Icmpv6Type::calc_checksum", || {
+        Icmpv6Type::Redirect.calc_checksum(a, b, longest)
+    });
+    stopped("Icmpv6Type::to_header", || {
+        Icmpv6Type::Redirect.to_header(a, b, longest)
+    });
+    stopped("Icmpv6Header::with_checksum", || {
+        Icmpv6Header::with_checksum(Icmpv6Type::Redirect, a, b, longest)
+    });
+    stopped("Icmpv6Header::update_checksum", || {
+        header.update_checksum(a, b, longest)
+    });
+}
+
+fn stopped<T>(name: &str, run: impl FnOnce() -> T) {
+    match stops(run) {
+        Ok(_) => unreachable!("{name}"),
+        Err(at) => println!("{name}: absent {}", at.what),
     }
 }

@@ -3,7 +3,7 @@
 //!     vectors full PUBLISHED [CAPTURE..]      everything
 //!     vectors sample PUBLISHED [CAPTURE..]    the sample that the repository keeps
 //!     vectors damaged PUBLISHED [CAPTURE..]   the sample, each answer with one bit turned round
-//!     vectors limits                          the two limits above 65,535 bytes, as text
+//!     vectors others                          what no vector holds, as text: refusals 2 and 3, and the calls that stop on every input
 //!
 //! The count of each call, and of the calls that stopped at an absent file, goes to standard error.
 
@@ -34,8 +34,8 @@ fn main() {
                 inputs::traffic(&mut sink, &read(capture));
             }
         }
-        ["limits"] => calls::limits(),
-        _ => eprintln!("vectors full|sample|damaged PUBLISHED [CAPTURE..], or vectors limits"),
+        ["others"] => calls::others(),
+        _ => eprintln!("vectors full|sample|damaged PUBLISHED [CAPTURE..], or vectors others"),
     }
 }
 
