@@ -1,0 +1,38 @@
+-- `Cursor::rest` meets its contract: the part is as long as what is dropped leaves, and beyond the bytes that is nothing.
+-- Assumes nothing.
+use lib.Seq.{take-length}
+use lib.ListN.{length-drop, drop-of-length-le}
+use native.Mathlib.Nat.{le-of-lt}
+use mathlib.Core.Path.{sym}
+use borrow.Author.Needs.{needs}
+use Rattle.ndp_options.proofs.Cursor.rest.Statement.{statement}
+use Rattle.ndp_options.proofs.Cursor.rest.Tie as tie
+
+sub-result : tie.Need-sub-result
+sub-result c = search needs
+
+part-result-start : tie.Need-part-result-start
+part-result-start c = search needs
+
+part-result-end : tie.Need-part-result-end
+part-result-end c = search needs
+
+slice-aggregate-result : tie.Need-slice-aggregate-result
+slice-aggregate-result c = search needs
+
+returns : tie.Need-returns
+returns c = rw (← length-drop) (take-length _)
+
+returns-2 : tie.Need-returns-2
+returns-2 c = sym (drop-of-length-le (c .before .before .args .options .now) (le-of-lt (c .before .if1 .left)))
+
+pub rest-spec : {M : Type 1} → statement M
+rest-spec =
+    tie.close
+    (tie.spec
+    sub-result
+    part-result-start
+    part-result-end
+    slice-aggregate-result
+    returns
+    returns-2)

@@ -1,0 +1,75 @@
+-- `Cursor::step` meets its contract: the judgement is that on the rest at the cursor, and each arm answers it as `stepOf` does.
+-- Assumes nothing.
+use Rattle.ndp_options.specs.Told.{judgedTold}
+use Rattle.ndp_options.specs.Rule.{rule}
+use Rattle.ndp_walk.proofs.Steps.{beyond, within}
+use Rattle.ndp_walk.proofs.Judging.{fitting}
+use Rattle.ndp_walk.specs.Judge.{judge}
+use lib.Seq.{take-length}
+use lib.ListN.{length, drop, length-drop}
+use native.Mathlib.Omega.{arith}
+use mathlib.Core.Path.{_≡_, _∙_, sym, ap}
+use borrow.Author.Needs.{needs}
+use Rattle.ndp_options.proofs.Cursor.step.Statement.{statement}
+use Rattle.ndp_options.proofs.Cursor.step.Tie as tie
+
+returns : tie.Need-returns
+returns c = sym (beyond _ _ _ (c .if1 .taken) .1)
+
+-- what the call of `judge` found
+found : (c : tie.After-judge) → judgedTold (c .judge .result) ≡ judge rule (drop (c .before .before .before .before .args .self .at) (c .before .before .before .before .args .options .now))
+found c = c .judge .ensures ∙ ap (judge rule) (rw (← length-drop) (take-length _))
+
+sub-judge : tie.Need-sub-judge
+sub-judge c = search needs
+
+part-judge-start : tie.Need-part-judge-start
+part-judge-start c = search needs
+
+part-judge-end : tie.Need-part-judge-end
+part-judge-end c = search needs
+
+judge-requires : tie.Need-judge-requires
+judge-requires c κs = search needs
+
+enum-told : tie.Need-enum-told
+enum-told c = search needs
+
+enum-known-why : tie.Need-enum-known-why
+enum-known-why c = search needs
+
+add-t17 : tie.Need-add-t17
+add-t17 c = search needs
+
+enum-known-kind : tie.Need-enum-known-kind
+enum-known-kind c = search needs
+
+add-t19 : tie.Need-add-t19
+add-t19 c = omega (arith, fitting rule _ (sym (found (c .before .before .before)) ∙ ap judgedTold (c .before .kind .given .1)), length-drop (c .before .before .before .before .before .before .before .args .self .at) (c .before .before .before .before .before .before .before .args .options .now))
+
+returns-2 : tie.Need-returns-2
+returns-2 c = sym (within _ _ _ (omega arith) (sym (found (c .before .before)) ∙ ap judgedTold (c .enum-told .given .1)))
+
+returns-3 : tie.Need-returns-3
+returns-3 c = sym (within _ _ _ (omega arith) (sym (found (c .before .before .before)) ∙ ap judgedTold (c .before .why .given .1)))
+
+returns-4 : tie.Need-returns-4
+returns-4 c = sym (within _ _ _ (omega arith) (sym (found (c .before .before .before)) ∙ ap judgedTold (c .before .kind .given .1)))
+
+pub step-spec : {M : Type 1} → statement M
+step-spec =
+    tie.close
+    (tie.spec
+    returns
+    sub-judge
+    part-judge-start
+    part-judge-end
+    judge-requires
+    enum-told
+    enum-known-why
+    add-t17
+    enum-known-kind
+    add-t19
+    returns-2
+    returns-3
+    returns-4)

@@ -1,0 +1,26 @@
+-- Document 01, "The option walk": types 1, 2 link-layer; 3 exactly 32 bytes; 4 any length; 5 MTU, one unit by RFC 4861; others unknown.
+-- Assumes nothing.
+use Prim.Native.Nat.{ℕ}
+use mathlib.Core.Bool.{cond}
+use mathlib.Core.List.{[], _∷_}
+use lib.Dec.{ltb, eqb}
+use lib.ListN.{length, getD}
+use Rattle.paper.specs.Paper.{refuses}
+use Rattle.ndp_walk.specs.Judge.{Rule, Ruling, Fits, Misfits}
+
+-- the kind of a type: 1 source and 2 target link-layer address, 3 prefix information, 4 redirected header, 5 MTU, 0 unknown
+abbrev pub kindOf : ℕ → ℕ
+kindOf type = cond (ltb 5 type) 0 type
+
+-- the bytes that a type asks of an option of so many: these same, where any length will do
+abbrev pub askedOf : ℕ → ℕ → ℕ
+askedOf type len = cond (eqb type 3) 32 (cond (eqb type 5) 8 len)
+
+-- another size than the type asks: refusal 5
+abbrev pub ruleOf : ℕ → ℕ → Ruling
+ruleOf type len =
+    cond (eqb len (askedOf type len)) (Fits (kindOf type))
+    (Misfits (refuses 5 (type ∷ askedOf type len ∷ len ∷ [])))
+
+unfoldable pub rule : Rule
+rule o = ruleOf (getD o 0 0) (length o)

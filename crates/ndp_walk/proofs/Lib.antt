@@ -1,0 +1,5 @@
+pub mod Judging
+pub mod Walking
+pub mod Paths
+pub mod Laws
+pub mod Steps

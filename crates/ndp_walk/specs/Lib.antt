@@ -1,0 +1,4 @@
+pub mod Judge
+pub mod Walk
+pub mod Step
+pub mod Laws
