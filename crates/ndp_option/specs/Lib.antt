@@ -1,0 +1,2 @@
+pub mod Mtu
+pub mod LinkLayer

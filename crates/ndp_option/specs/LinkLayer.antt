@@ -1,0 +1,9 @@
+-- RFC 4861, section 4.6.1: the source link-layer address is type 1, the target's type 2.
+-- Assumes nothing.
+use Prim.Native.Nat.{ℕ}
+use Rattle.ndp_option.specs.declared.link_layer_address_option.LinkLayerAddressOption.{LinkLayerAddressOption}
+use Rattle.ndp_option.specs.declared.link_layer_address_option.LinkLayerAddressOption.the-variants.{Source, Target}
+
+abbrev pub typeOf : LinkLayerAddressOption → ℕ
+typeOf Source = 1
+typeOf Target = 2

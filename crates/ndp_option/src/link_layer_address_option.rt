@@ -1,0 +1,37 @@
+// The source and the target link-layer address option (RFC 4861, section 4.6.1): 1 or 2, units, the address.
+// Port of source_link_layer_address_option_slice.rs and target_link_layer_address_option_slice.rs, whose tests are those of the redirected header.
+ghost use mathlib.Core.Path.{_≡_};
+ghost use Rattle.ndp_option_read.specs.Rule.{readTold, sizedOf, partFrom};
+ghost use Rattle.ndp_option.specs.LinkLayer.{typeOf};
+use ndp_option_read::NdpOptionRead;
+use refusal::NdpOptionType;
+
+// Whose address it is.
+pub enum LinkLayerAddressOption {
+    Source,
+    Target,
+}
+
+impl LinkLayerAddressOption {
+    pub fn option_type(self) -> NdpOptionType
+        ensures { λ r. ⌜ r .0 ≡ typeOf self ⌝ }
+    {
+        match self {
+            LinkLayerAddressOption::Source => NdpOptionType(1),
+            LinkLayerAddressOption::Target => NdpOptionType(2),
+        }
+    }
+
+    pub fn from_slice(self, slice: &[u8]) -> NdpOptionRead
+        ensures { λ r. ⌜ readTold r ≡ sizedOf (typeOf self) (now (slice .entry)) ⌝ }
+    {
+        ndp_option_read::sized(self.option_type(), slice)
+    }
+
+    // The address, with the padding that may stand behind it; no bytes of an option that is refused.
+    pub fn link_layer_address(self, slice: &[u8]) -> &[u8]
+        ensures { λ r. ⌜ now r ≡ partFrom 2 (sizedOf (typeOf self) (now (slice .entry))) (now (slice .entry)) ⌝ }
+    {
+        crate::part(self.from_slice(slice), slice, 2)
+    }
+}

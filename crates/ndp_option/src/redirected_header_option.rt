@@ -1,0 +1,19 @@
+// The redirected header option (RFC 4861, section 4.6.3): 4, units, six reserved bytes, the start of the packet.
+// Port of redirected_header_option_slice.rs.
+ghost use mathlib.Core.Path.{_≡_};
+ghost use Rattle.ndp_option_read.specs.Rule.{readTold, sizedOf, partFrom};
+use ndp_option_read::NdpOptionRead;
+use refusal::NdpOptionType;
+
+pub fn from_slice(slice: &[u8]) -> NdpOptionRead
+    ensures { λ r. ⌜ readTold r ≡ sizedOf 4 (now (slice .entry)) ⌝ }
+{
+    ndp_option_read::sized(NdpOptionType(4), slice)
+}
+
+// The redirected packet, with the padding that may stand behind it; no bytes of an option that is refused.
+pub fn redirected_packet(slice: &[u8]) -> &[u8]
+    ensures { λ r. ⌜ now r ≡ partFrom 8 (sizedOf 4 (now (slice .entry))) (now (slice .entry)) ⌝ }
+{
+    crate::part(from_slice(slice), slice, 8)
+}

@@ -1,0 +1,13 @@
+// An option of a type that is not looked at: handed out as it stands. Port of unknown_ndp_option_slice.rs.
+ghost use mathlib.Core.Path.{_≡_};
+ghost use lib.ListN.{getD};
+ghost use Rattle.ndp_option_read.specs.Rule.{readTold, sizedOf};
+use ndp_option_read::NdpOptionRead;
+use refusal::NdpOptionType;
+
+pub fn from_slice(slice: &[u8]) -> NdpOptionRead
+    ensures { λ r. ⌜ readTold r ≡ sizedOf (getD (now (slice .entry)) 0 0) (now (slice .entry)) ⌝ }
+{
+    let id = if slice.len() == 0 { 0 } else { slice[0] };
+    ndp_option_read::sized(NdpOptionType(id), slice)
+}

@@ -1,0 +1,3 @@
+pub mod Rules
+pub mod Paper
+pub mod Unique

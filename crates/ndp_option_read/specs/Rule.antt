@@ -1,0 +1,44 @@
+-- How an option is read by itself: the two rules that its readers share, each test in document 01's order.
+-- Assumes nothing.
+use Prim.Native.Nat.{ℕ}
+use mathlib.Core.Bool.{Bool, cond, not, _||_}
+use mathlib.Core.List.{List, [], _∷_}
+use lib.Dec.{eqb, ltb}
+use lib.ListN.{getD, length, drop}
+use Rattle.paper.specs.Paper.{Paper, refuses, gives}
+use Rattle.refusal.specs.Paper.{refusal}
+use Rattle.ndp_option_header.specs.Header.{bytesOf}
+use Rattle.ndp_option_read.specs.declared.NdpOptionRead.{NdpOptionRead}
+use Rattle.ndp_option_read.specs.declared.NdpOptionRead.the-variants.{Accepted, Refused}
+
+-- an option that is accepted has no values here: what it says is read beside
+abbrev pub readTold : NdpOptionRead → Paper
+readTold Accepted = gives []
+readTold (Refused why) = refusal why
+
+abbrev differ : ℕ → ℕ → Bool
+differ m n = not (eqb m n)
+
+-- an option of a fixed size: the size, then both bytes of the header
+unfoldable pub exactlyOf : ℕ → ℕ → List ℕ → Paper
+exactlyOf id units s =
+    cond (differ (length s) (bytesOf units)) (refuses 5 (id ∷ bytesOf units ∷ length s ∷ []))
+    (cond (differ (getD s 0 0) id || differ (getD s 1 0) units) (refuses 8 (id ∷ getD s 0 0 ∷ units ∷ getD s 1 0 ∷ []))
+    (gives []))
+
+-- an option of any size: under 8 bytes, type, unit 0, size not 8 times the unit. Refusal 8 repeats the actual unit as the expected one
+unfoldable pub sizedOf : ℕ → List ℕ → Paper
+sizedOf id s =
+    cond (ltb (length s) 8) (refuses 5 (id ∷ 8 ∷ length s ∷ []))
+    (cond (differ (getD s 0 0) id) (refuses 8 (id ∷ getD s 0 0 ∷ getD s 1 0 ∷ getD s 1 0 ∷ []))
+    (cond (eqb (getD s 1 0) 0) (refuses 6 (id ∷ []))
+    (cond (differ (length s) (bytesOf (getD s 1 0))) (refuses 5 (id ∷ bytesOf (getD s 1 0) ∷ length s ∷ []))
+    (gives []))))
+
+-- x where nothing is refused
+abbrev pub ifRead : {A : Type 0} → Paper → A → A → A
+ifRead p x other = cond (eqb (p .number) 0) x other
+
+-- the bytes from n on, none where the option is refused
+abbrev pub partFrom : ℕ → Paper → List ℕ → List ℕ
+partFrom n p s = ifRead p (drop n s) []

@@ -1,0 +1,99 @@
+// The two rules by which a Neighbor Discovery option is read by itself (RFC 4861, section 4.6): every reader goes by one of them,
+// and an option that the library has no reader of can be read by them too.
+ghost use mathlib.Core.Path.{_≡_};
+ghost use mathlib.Core.List.{[], _∷_};
+ghost use lib.ListN.{getD};
+ghost use Rattle.ndp_option_header.specs.Header.{headerBytes};
+ghost use Rattle.ndp_option_read.specs.Rule.{readTold, exactlyOf, sizedOf};
+use ndp_option_header::NdpOptionHeader;
+use refusal::LengthUnits;
+use refusal::NdpOptionType;
+use refusal::Refusal;
+
+// Whether an option is one of its kind. What it says is read by another call, or stands beside.
+pub enum NdpOptionRead {
+    Accepted,
+    Refused(Refusal),
+}
+
+// An option of a fixed size: its bytes, then its header.
+pub fn exactly(id: NdpOptionType, units: LengthUnits, slice: &[u8]) -> NdpOptionRead
+    ensures { λ r. ⌜ readTold r ≡ exactlyOf (id .0) (units .0) (now (slice .entry)) ⌝ }
+{
+    let expected = NdpOptionHeader {
+        option_type: id,
+        length_units: units,
+    };
+    let size = expected.byte_len();
+    let length = slice.len();
+    if length != size {
+        return NdpOptionRead::Refused(Refusal::UnexpectedSize {
+            id: id,
+            expected: size,
+            actual: length,
+        });
+    }
+    let header = header_at(slice);
+    let actual = header.option_type;
+    let actual_units = header.length_units;
+    if actual.0 != id.0 || actual_units.0 != units.0 {
+        return NdpOptionRead::Refused(Refusal::UnexpectedHeader {
+            expected: id,
+            actual: actual,
+            expected_units: units,
+            actual_units: actual_units,
+        });
+    }
+    NdpOptionRead::Accepted
+}
+
+// An option of any size from one unit up: a unit's bytes, its type, a length that is not 0, and the bytes that it says.
+pub fn sized(id: NdpOptionType, slice: &[u8]) -> NdpOptionRead
+    ensures { λ r. ⌜ readTold r ≡ sizedOf (id .0) (now (slice .entry)) ⌝ }
+{
+    let length = slice.len();
+    if length < 8 {
+        return NdpOptionRead::Refused(Refusal::UnexpectedSize {
+            id: id,
+            expected: 8,
+            actual: length,
+        });
+    }
+    let header = header_at(slice);
+    let actual = header.option_type;
+    let units = header.length_units;
+    if actual.0 != id.0 {
+        return NdpOptionRead::Refused(Refusal::UnexpectedHeader {
+            expected: id,
+            actual: actual,
+            expected_units: units,
+            actual_units: units,
+        });
+    }
+    if units.0 == 0 {
+        return NdpOptionRead::Refused(Refusal::ZeroLength { id: id });
+    }
+    let size = header.byte_len();
+    if length != size {
+        return NdpOptionRead::Refused(Refusal::UnexpectedSize {
+            id: id,
+            expected: size,
+            actual: length,
+        });
+    }
+    NdpOptionRead::Accepted
+}
+
+// The header, with 0 for a byte that is not there.
+fn header_at(slice: &[u8]) -> NdpOptionHeader
+    ensures { λ r. ⌜ headerBytes r ≡ getD (now (slice .entry)) 0 0 ∷ getD (now (slice .entry)) 1 0 ∷ [] ⌝ }
+{
+    NdpOptionHeader::from_bytes([byte_at(slice, 0), byte_at(slice, 1)])
+}
+
+// A byte, and 0 past the last.
+fn byte_at(slice: &[u8], at: usize) -> u8
+    ensures { λ r. ⌜ r ≡ getD (now (slice .entry)) at 0 ⌝ }
+{
+    if at < slice.len() { slice[at] } else { 0 }
+}

@@ -1,0 +1,55 @@
+-- Document 01, "Prefix option" (RFC 4861, section 4.6.2): 3, 4, prefix length, flags, valid and preferred lifetimes, 4 reserved bytes, 16 of prefix.
+-- Assumes nothing.
+use Prim.Native.Nat.{ℕ, _+_}
+use mathlib.Core.Bool.{false}
+use mathlib.Core.List.{List, [], _∷_, _++_}
+use lib.ListN.{getD, drop, replicate}
+use Rattle.paper.specs.Paper.{Paper}
+use Rattle.wire.specs.Wire.{word32, bytes32, hasFlag, flagOf}
+use Rattle.prefix_information.specs.declared.PrefixInformation.{PrefixInformation}
+use Rattle.prefix_information.specs.declared.PrefixInformationRead.{PrefixInformationRead}
+use Rattle.ndp_option_read.specs.Rule.{readTold, exactlyOf, ifRead}
+
+-- what the bytes say: 128 is on-link, 64 autonomous; the other bits of the flags and the bytes 12 to 15 are reserved
+abbrev pub informationAt : List ℕ → PrefixInformation
+informationAt s =
+    record {
+      «prefix_length» = getD s 2 0;
+      «on_link» = hasFlag (getD s 3 0) 128;
+      «autonomous_address_configuration» = hasFlag (getD s 3 0) 64;
+      «valid_lifetime» = word32 (getD s 4 0) (getD s 5 0) (getD s 6 0) (getD s 7 0);
+      «preferred_lifetime» = word32 (getD s 8 0) (getD s 9 0) (getD s 10 0) (getD s 11 0);
+      prefix = drop 16 s;
+    }
+
+-- the bytes that say so, every reserved bit 0
+abbrev pub bytesOf : PrefixInformation → List ℕ
+bytesOf i =
+    3 ∷ 4 ∷ i .«prefix_length» ∷ (flagOf (i .«on_link») 128 + flagOf (i .«autonomous_address_configuration») 64)
+    ∷ bytes32 (i .«valid_lifetime») ++ bytes32 (i .«preferred_lifetime») ++ replicate 4 0 ++ i .prefix
+
+abbrev pub nothing : PrefixInformation
+nothing =
+    record {
+      «prefix_length» = 0;
+      «on_link» = false;
+      «autonomous_address_configuration» = false;
+      «valid_lifetime» = 0;
+      «preferred_lifetime» = 0;
+      prefix = replicate 16 0;
+    }
+
+-- an answer: the number and values, and what the option says beside them
+pub record Told : Type 0 where
+  pub paper : Paper
+  pub information : PrefixInformation
+
+abbrev pub told : Paper → PrefixInformation → Told
+told p i = record { paper = p; information = i }
+
+abbrev pub prefixTold : PrefixInformationRead → Told
+prefixTold r = told (readTold (r .answer)) (r .information)
+
+-- type 3 of four units: what it says, and nothing where it is refused
+unfoldable pub prefixOf : List ℕ → Told
+prefixOf s = told (exactlyOf 3 4 s) (ifRead (exactlyOf 3 4 s) (informationAt s) nothing)
