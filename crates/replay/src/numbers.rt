@@ -5,7 +5,7 @@ use refusal::Refusal;
 // The first `count` of the values are the answer; no single answer has more.
 pub struct Told {
     pub count: usize,
-    pub values: [u64; 11],
+    pub values: [u64; 12],
 }
 
 // A place that no answer has: something before it was not met.
@@ -20,7 +20,7 @@ pub fn nothing() -> Told {
 pub fn tell(count: usize, a: u64, b: u64, c: u64, d: u64, e: u64, f: u64) -> Told {
     Told {
         count,
-        values: [a, b, c, d, e, f, 0, 0, 0, 0, 0],
+        values: [a, b, c, d, e, f, 0, 0, 0, 0, 0, 0],
     }
 }
 
@@ -37,6 +37,20 @@ pub fn refused(why: Refusal) -> Told {
         v[3],
         0,
     )
+}
+
+// A refusal of an option list, and its place.
+pub fn refused_at(why: Refusal, place: usize) -> Told {
+    let n = why.numbers();
+    let v = n.values;
+    let count = n.count;
+    if count == 1 {
+        return tell(3, n.number as u64, v[0], place as u64, 0, 0, 0);
+    }
+    if count == 3 {
+        return tell(5, n.number as u64, v[0], v[1], v[2], place as u64, 0);
+    }
+    nothing()
 }
 
 pub fn flag(set: bool) -> u64 {
@@ -76,7 +90,7 @@ pub fn met(answer: &[u8], at: usize, t: Told) -> usize {
     let count = t.count;
     let mut to = at;
     let mut i: usize = 0;
-    while i < 11 {
+    while i < 12 {
         to = if i < count {
             met_one(answer, to, values[i])
         } else {

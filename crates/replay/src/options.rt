@@ -61,6 +61,7 @@ fn information_told(p: PrefixInformation) -> Told {
             numbers::long(b[8], b[9], b[10], b[11]),
             numbers::long(b[12], b[13], b[14], b[15]),
             0,
+            0,
         ],
     }
 }
@@ -143,6 +144,7 @@ pub fn prefix_to_bytes(input: &[u8]) -> Told {
             numbers::long(b[20], b[21], b[22], b[23]),
             numbers::long(b[24], b[25], b[26], b[27]),
             numbers::long(b[28], b[29], b[30], b[31]),
+            0,
             0,
             0,
         ],

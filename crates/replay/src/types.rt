@@ -15,7 +15,7 @@ pub enum Value {
 }
 
 // An advertisement's head from five bytes: the hop limit, M, O and the lifetime.
-fn router_of(hop: u8, m: u8, o: u8, high: u8, low: u8) -> RouterAdvertisementHeader {
+pub fn router_of(hop: u8, m: u8, o: u8, high: u8, low: u8) -> RouterAdvertisementHeader {
     RouterAdvertisementHeader {
         cur_hop_limit: hop,
         managed_address_config: m != 0,

@@ -63,8 +63,7 @@ fn step(input: &[u8], answer: &[u8], w: Walking) -> Walking {
             if !is_stopped(input, next) {
                 return last(answer, w, numbers::nothing());
             }
-            let refused = last(answer, w, numbers::refused(why));
-            last(answer, refused, tell(1, place as u64, 0, 0, 0, 0, 0))
+            last(answer, w, numbers::refused_at(why, place))
         }
         Step::Stopped => last(answer, w, numbers::nothing()),
     }
