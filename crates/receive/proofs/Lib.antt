@@ -1,0 +1,4 @@
+pub mod Lengths
+pub mod Options
+pub mod Paper
+pub mod Unique

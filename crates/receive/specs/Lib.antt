@@ -1,0 +1,4 @@
+pub mod Reasons
+pub mod Rules
+pub mod Receive
+pub mod Told
