@@ -5,7 +5,7 @@ use lib.ListN.{getD}
 use Rattle.icmpv6_type.specs.declared.Icmpv6Type.{Icmpv6Type}
 use Rattle.icmpv6_type.specs.declared.Icmpv6Type.the-variants.{Unknown, DestinationUnreachable, PacketTooBig, TimeExceeded, ParameterProblem, EchoRequest, EchoReply, RouterSolicitation, RouterAdvertisement, NeighborSolicitation, NeighborAdvertisement, Redirect}
 use Rattle.icmpv6_type.specs.Value.{typeTold, typeNumber, codeNumber}
-use Rattle.c_api.specs.Decode.{typeOf, codeOf}
+use Rattle.c_api.specs.Head.{typeOf, codeOf}
 
 pub type-told : (t : Icmpv6Type) → typeNumber t ≡ typeOf (typeTold t)
 type-told (Unknown k c w) = refl

@@ -30,6 +30,10 @@ END = 7
 abbrev pub STOPPED : ℕ
 STOPPED = 8
 
+-- a packet that passed the receive check
+abbrev pub RECEIVED : ℕ
+RECEIVED = 9
+
 -- an option that was read
 abbrev pub PREFIX : ℕ
 PREFIX = 11

@@ -1,5 +1,6 @@
 pub mod Answer
-pub mod Decode
-pub mod Verify
-pub mod Step
-pub mod ReadPrefix
+pub mod Head
+pub mod Verified
+pub mod Received
+pub mod Stepped
+pub mod Prefix

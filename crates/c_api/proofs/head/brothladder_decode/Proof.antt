@@ -1,10 +1,10 @@
 -- `brothladder_decode` meets its contract: in each arm the promise of `from_slice` is rewritten to the case that the arm matched.
 -- Assumes nothing.
-use Rattle.c_api.specs.Decode.{headFor}
+use Rattle.c_api.specs.Head.{headFor}
 use Rattle.refusal.proofs.Paper.{refusal-numbered}
 use borrow.Author.Needs.{needs}
-use Rattle.c_api.proofs.decode.brothladder_decode.Statement.{statement}
-use Rattle.c_api.proofs.decode.brothladder_decode.Tie as tie
+use Rattle.c_api.proofs.head.brothladder_decode.Statement.{statement}
+use Rattle.c_api.proofs.head.brothladder_decode.Tie as tie
 
 from-slice-requires : tie.Need-from-slice-requires
 from-slice-requires c κs = search needs

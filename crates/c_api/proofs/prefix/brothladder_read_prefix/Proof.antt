@@ -1,10 +1,10 @@
 -- `brothladder_read_prefix` meets its contract: in each arm the promise of `from_slice` is rewritten to the case that the arm matched.
 -- Assumes nothing.
-use Rattle.c_api.specs.ReadPrefix.{prefixFor}
+use Rattle.c_api.specs.Prefix.{prefixFor}
 use Rattle.refusal.proofs.Paper.{refusal-numbered}
 use borrow.Author.Needs.{needs}
-use Rattle.c_api.proofs.read_prefix.brothladder_read_prefix.Statement.{statement}
-use Rattle.c_api.proofs.read_prefix.brothladder_read_prefix.Tie as tie
+use Rattle.c_api.proofs.prefix.brothladder_read_prefix.Statement.{statement}
+use Rattle.c_api.proofs.prefix.brothladder_read_prefix.Tie as tie
 
 from-slice-requires : tie.Need-from-slice-requires
 from-slice-requires c κs = search needs

@@ -3,7 +3,7 @@ ghost use mathlib.Core.Path.{_≡_};
 ghost use Rattle.icmpv6.specs.Head.{headerTold, decodeOf};
 ghost use Rattle.icmpv6_type.specs.Value.{typeTold};
 ghost use Rattle.c_api.specs.Answer.{KNOWN};
-ghost use Rattle.c_api.specs.Decode.{kept, keptOf, headOf, headFor};
+ghost use Rattle.c_api.specs.Head.{kept, keptOf, headOf, headFor};
 use crate::answer;
 use icmpv6::icmpv6_header::HeaderRead;
 use icmpv6::icmpv6_header::Icmpv6Header;

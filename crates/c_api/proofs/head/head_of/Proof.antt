@@ -2,8 +2,8 @@
 -- Assumes nothing.
 use Rattle.c_api.proofs.Laws.{type-told, code-told}
 use borrow.Author.Needs.{needs}
-use Rattle.c_api.proofs.decode.head_of.Statement.{statement}
-use Rattle.c_api.proofs.decode.head_of.Tie as tie
+use Rattle.c_api.proofs.head.head_of.Statement.{statement}
+use Rattle.c_api.proofs.head.head_of.Tie as tie
 
 kept-of-requires : tie.Need-kept-of-requires
 kept-of-requires c κs = search needs

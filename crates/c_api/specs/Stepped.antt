@@ -9,7 +9,7 @@ use Rattle.paper.specs.Paper.{Paper}
 use Rattle.ndp_walk.specs.Step.{Told}
 use Rattle.refusal.specs.Paper.{slots}
 use Rattle.c_api.specs.Answer.{REFUSED, OPTION, END, STOPPED, none}
-use Rattle.c_api.specs.declared.step.Stepped.{Stepped}
+use Rattle.c_api.specs.declared.stepped.Stepped.{Stepped}
 
 -- an answer without an option
 abbrev pub bare : ℕ → ℕ → List ℕ → ℕ → Stepped

@@ -2,7 +2,7 @@
 ghost use mathlib.Core.Path.{_≡_};
 ghost use Rattle.ndp_options.specs.Walk.{stepOf};
 ghost use Rattle.ndp_options.specs.Told.{kindNumber};
-ghost use Rattle.c_api.specs.Step.{steppedFor};
+ghost use Rattle.c_api.specs.Stepped.{steppedFor};
 use crate::answer;
 use ndp_options::Cursor;
 use ndp_options::NdpOptionKind;

@@ -9,7 +9,7 @@ use Rattle.wire.specs.Wire.{flagOf}
 use Rattle.prefix_information.specs.declared.PrefixInformation.{PrefixInformation}
 use Rattle.prefix_information.specs.Prefix.{Told}
 use Rattle.c_api.specs.Answer.{REFUSED, PREFIX}
-use Rattle.c_api.specs.declared.read_prefix.Prefix.{Prefix}
+use Rattle.c_api.specs.declared.prefix.Prefix.{Prefix}
 
 abbrev pub prefix : ℕ → ℕ → List ℕ → PrefixInformation → Prefix
 prefix answer refusal value i =

@@ -1,8 +1,8 @@
 -- `kept_of` meets its contract: in each arm the value is known, and its numbers on paper compute.
 -- Assumes nothing.
 use borrow.Author.Needs.{needs}
-use Rattle.c_api.proofs.decode.kept_of.Statement.{statement}
-use Rattle.c_api.proofs.decode.kept_of.Tie as tie
+use Rattle.c_api.proofs.head.kept_of.Statement.{statement}
+use Rattle.c_api.proofs.head.kept_of.Tie as tie
 
 enum-known-t : tie.Need-enum-known-t
 enum-known-t c = search needs

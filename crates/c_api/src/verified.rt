@@ -1,7 +1,7 @@
 // The verdict on a packet's checksum.
 ghost use mathlib.Core.Path.{_≡_};
 ghost use Rattle.checksum.specs.Icmpv6.{verdictOf};
-ghost use Rattle.c_api.specs.Verify.{verifiedFor};
+ghost use Rattle.c_api.specs.Verified.{verifiedFor};
 use crate::answer;
 use checksum::Verdict;
 

@@ -1,8 +1,8 @@
 -- `prefix_of` meets its contract: number by number, a flag as 1 or 0.
 -- Assumes nothing.
 use borrow.Author.Needs.{needs}
-use Rattle.c_api.proofs.read_prefix.prefix_of.Statement.{statement}
-use Rattle.c_api.proofs.read_prefix.prefix_of.Tie as tie
+use Rattle.c_api.proofs.prefix.prefix_of.Statement.{statement}
+use Rattle.c_api.proofs.prefix.prefix_of.Tie as tie
 
 cast-t6 : tie.Need-cast-t6
 cast-t6 c = search needs

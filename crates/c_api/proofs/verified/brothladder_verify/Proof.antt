@@ -1,10 +1,10 @@
 -- `brothladder_verify` meets its contract: in each arm the promise of `verify` is rewritten to the case that the arm matched.
 -- Assumes nothing.
-use Rattle.c_api.specs.Verify.{verifiedFor}
+use Rattle.c_api.specs.Verified.{verifiedFor}
 use Rattle.refusal.proofs.Paper.{refusal-numbered}
 use borrow.Author.Needs.{needs}
-use Rattle.c_api.proofs.verify.brothladder_verify.Statement.{statement}
-use Rattle.c_api.proofs.verify.brothladder_verify.Tie as tie
+use Rattle.c_api.proofs.verified.brothladder_verify.Statement.{statement}
+use Rattle.c_api.proofs.verified.brothladder_verify.Tie as tie
 
 verify-requires : tie.Need-verify-requires
 verify-requires c κs = search needs

@@ -1,7 +1,7 @@
 // The numbers of a prefix information option that a step handed out.
 ghost use mathlib.Core.Path.{_≡_};
 ghost use Rattle.prefix_information.specs.Prefix.{prefixOf};
-ghost use Rattle.c_api.specs.ReadPrefix.{prefix, prefixFor};
+ghost use Rattle.c_api.specs.Prefix.{prefix, prefixFor};
 use crate::answer;
 use ndp_option_read::NdpOptionRead;
 use prefix_information::PrefixInformation;

@@ -9,8 +9,8 @@ use lib.ListN.{getD, drop}
 use Rattle.paper.specs.Paper.{Paper}
 use Rattle.refusal.specs.Paper.{slots}
 use Rattle.c_api.specs.Answer.{REFUSED, KNOWN, UNKNOWN, none}
-use Rattle.c_api.specs.declared.decode.Kept.{Kept}
-use Rattle.c_api.specs.declared.decode.Head.{Head}
+use Rattle.c_api.specs.declared.head.Kept.{Kept}
+use Rattle.c_api.specs.declared.head.Head.{Head}
 
 -- of an Unknown, of a type that keeps its code, of another
 abbrev pub among : List ℕ → {A : Type 0} → A → A → A → A

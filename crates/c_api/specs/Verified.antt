@@ -8,7 +8,7 @@ use lib.ListN.{getD}
 use Rattle.paper.specs.Paper.{Paper}
 use Rattle.refusal.specs.Paper.{slots}
 use Rattle.c_api.specs.Answer.{REFUSED, VALID, INVALID, none}
-use Rattle.c_api.specs.declared.verify.Verified.{Verified}
+use Rattle.c_api.specs.declared.verified.Verified.{Verified}
 
 abbrev pub verified : ℕ → ℕ → List ℕ → Verified
 verified answer refusal value = record { answer = answer; refusal = refusal; value = value }

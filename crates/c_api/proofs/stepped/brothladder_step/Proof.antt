@@ -1,10 +1,10 @@
 -- `brothladder_step` meets its contract: in each arm the promise of `Cursor::step` is rewritten to the case that the arm matched.
 -- Assumes nothing.
-use Rattle.c_api.specs.Step.{steppedFor}
+use Rattle.c_api.specs.Stepped.{steppedFor}
 use Rattle.refusal.proofs.Paper.{refusal-numbered}
 use borrow.Author.Needs.{needs}
-use Rattle.c_api.proofs.step.brothladder_step.Statement.{statement}
-use Rattle.c_api.proofs.step.brothladder_step.Tie as tie
+use Rattle.c_api.proofs.stepped.brothladder_step.Statement.{statement}
+use Rattle.c_api.proofs.stepped.brothladder_step.Tie as tie
 
 step-requires : tie.Need-step-requires
 step-requires c κs = search needs
