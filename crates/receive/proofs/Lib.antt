@@ -1,4 +1,7 @@
 pub mod Lengths
+pub mod First
+pub mod Theorems
+pub mod Whole
 pub mod Options
 pub mod Paper
 pub mod Unique

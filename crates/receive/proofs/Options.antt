@@ -9,11 +9,12 @@ use lib.ListN.{length, getD, take, drop, length-drop}
 use lib.Seq.{take-length}
 use Rattle.refusal.specs.declared.Refusal.{Refusal}
 use Rattle.ndp_walk.specs.Walk.{Clean}
-use Rattle.ndp_options.specs.Walk.{walk, occurs, occursOf, bit}
-use Rattle.ndp_options.specs.Told.{occursTold}
-use Rattle.ndp_options.specs.declared.Occurs.{Occurs}
-use Rattle.ndp_options.specs.declared.Occurs.the-variants.{Yes, No, Refused}
-use Rattle.ndp_options.proofs.Whole.{answered, refused-whole}
+use Rattle.ndp_options.specs.Walk.{walk}
+use Rattle.ndp_option_list.specs.Whole.{occurs, occursOf, bit}
+use Rattle.ndp_option_list.specs.Told.{occursTold}
+use Rattle.ndp_option_list.specs.declared.Occurs.{Occurs}
+use Rattle.ndp_option_list.specs.declared.Occurs.the-variants.{Yes, No, Refused}
+use Rattle.ndp_option_list.proofs.Whole.{answered, refused-whole}
 use Rattle.ndp_options.proofs.Steps.{refuses-some}
 use Rattle.receive.specs.Receive.{isClean}
 

@@ -11,7 +11,8 @@ use Rattle.message_table.specs.Table.{fixedPart}
 use Rattle.checksum.specs.Icmpv6.{verdictOf}
 use Rattle.checksum.specs.Fields.{isValid}
 use Rattle.ndp_walk.specs.Walk.{Ending, Clean, RefusedAt}
-use Rattle.ndp_options.specs.Walk.{walk, occurs}
+use Rattle.ndp_options.specs.Walk.{walk}
+use Rattle.ndp_option_list.specs.Whole.{occurs}
 use Rattle.receive.specs.Reasons.{Reason, reason, firstOf}
 use Rattle.receive.specs.Rules.{ownOf}
 

@@ -4,7 +4,8 @@ use Rattle.receive.proofs.Options.{with-one, without, not-clean}
 use Rattle.receive.specs.Receive.{isNdp, isClean, fixedLen, optionsOf, reasons}
 use Rattle.receive.specs.Rules.{ownOf}
 use Rattle.receive.specs.Reasons.{firstOf}
-use Rattle.ndp_options.specs.Walk.{walk, occurs}
+use Rattle.ndp_options.specs.Walk.{walk}
+use Rattle.ndp_option_list.specs.Whole.{occurs}
 use borrow.Author.Tests.{not-true, not-false, eq-eqb, ne-eqb, lt-ltb, le-ltb}
 use native.Mathlib.Omega.{arith}
 use lib.Dec.{ltb}
