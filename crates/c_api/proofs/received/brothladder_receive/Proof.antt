@@ -1,8 +1,6 @@
 -- `brothladder_receive` meets its contract: in each arm the promise of `receive_check` is rewritten to the case that the arm matched. Of an accepted packet the options are within it.
 -- Assumes nothing.
 use native.Mathlib.Omega.{arith}
-use mathlib.Core.Path.{sym, ap, _∙_}
-use Rattle.receive.specs.Told.{told}
 use Rattle.c_api.proofs.Accepted.{sound}
 use Rattle.c_api.specs.Received.{Sound, receivedFor}
 use Rattle.refusal.proofs.Paper.{refusal-numbered}
@@ -17,7 +15,7 @@ enum-told : tie.Need-enum-told
 enum-told c = search needs
 
 accepted : (c : tie.After-enum-told) → Sound (c .before .before .before .before .args .packet .now)
-accepted c = sound _ _ _ _ (sym (ap told (c .enum-told .given .1)) ∙ c .before .before .receive-check .ensures)
+accepted c = sound _ _ _ _ _ (c .before .before .receive-check .ensures) (c .enum-told .given .1)
 
 options-at-requires : tie.Need-options-at-requires
 options-at-requires c κs = accepted c
