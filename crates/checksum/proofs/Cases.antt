@@ -5,6 +5,7 @@ use mathlib.Core.Path.{_≡_, refl}
 use mathlib.Core.List.{List, [], _∷_, _++_, map}
 use lib.ListN.{replicate}
 use Rattle.paper.specs.Paper.{Paper}
+use Rattle.packet_length.specs.Length.{sized}
 use Rattle.checksum.specs.Ones.{_⊕_, words, onesSum}
 use Rattle.checksum.specs.Icmpv6.{sumOf, verdictOf}
 use Rattle.checksum.specs.Running.{plainSum, lowFirst, folded, swapped}
@@ -55,5 +56,5 @@ cases =
     ∷ []
 
 pub right : map (λ (k : Case). k .got) cases ≡ map (λ (k : Case). k .wanted) cases
-unfolding sumOf verdictOf _⊕_ folded
+unfolding sumOf verdictOf sized _⊕_ folded
 right = refl

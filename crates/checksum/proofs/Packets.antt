@@ -6,8 +6,9 @@ use mathlib.Core.List.{List, [], _∷_, _++_}
 use native.Mathlib.Omega.{arith}
 use lib.ListN.{length, set, length-set}
 use lib.Seq.{set-append-left}
+use Rattle.packet_length.specs.Length.{limit}
 use Rattle.checksum.specs.Ones.{words}
-use Rattle.checksum.specs.Icmpv6.{pseudoWords, sumOf, withField, packetLimit}
+use Rattle.checksum.specs.Icmpv6.{pseudoWords, sumOf, withField}
 use Rattle.checksum.specs.Running.{more, none, Bytes, Words, plainSum, folded, Pseudo, Part}
 use Rattle.checksum.proofs.Folding.{folded-both}
 use Rattle.checksum.proofs.Sums.{below-append, words-small, plainSum-append, onesSum-folded, words-append}
@@ -17,7 +18,7 @@ pub plainSum-pseudo : (source destination : List ℕ) (n : ℕ)
 plainSum-pseudo source destination n = simp plainSum-append (omega arith)
 
 -- the fold of the plain sums of the pseudo-header and the packet
-pub sumOf-folded : {source destination packet : List ℕ} → Bytes source → Bytes destination → Bytes packet → length packet ≤ packetLimit
+pub sumOf-folded : {source destination packet : List ℕ} → Bytes source → Bytes destination → Bytes packet → length packet ≤ limit
     → sumOf source destination packet ≡ folded (plainSum (pseudoWords source destination (length packet)) + plainSum (words packet))
 unfolding sumOf
 sumOf-folded {source} {destination} {packet} hs hd hp l =
@@ -30,7 +31,7 @@ sumOf-folded {source} {destination} {packet} hs hd hp l =
         (more {x = length packet % 65536} (omega arith) (more {x = 0} (omega arith) (more {x = 58} (omega arith) none)))
 
 -- so do totals that fold like them
-pub sum-of-totals : {source destination packet : List ℕ} {n p f : ℕ} (r : ℕ) → n ≡ length packet → length packet ≤ packetLimit
+pub sum-of-totals : {source destination packet : List ℕ} {n p f : ℕ} (r : ℕ) → n ≡ length packet → length packet ≤ limit
     → Pseudo source destination n p → Bytes packet → folded r ≡ folded (plainSum (words packet)) → f ≡ folded (p + r) → sumOf source destination packet ≡ f
 sum-of-totals {source} {destination} {packet} {n} {p} {f} r e l h k q fold =
     sumOf-folded (h .source-bytes) (h .destination-bytes) k l

@@ -7,10 +7,12 @@ use mathlib.Core.List.{List, [], _∷_, _++_}
 use native.Mathlib.Omega.{arith}
 use lib.Dec.{eqb}
 use lib.ListN.{length, length-set, length-append}
-use borrow.Author.Tests.{le-ltb, eq-eqb, ne-eqb}
+use borrow.Author.Tests.{eq-eqb, ne-eqb}
 use Rattle.wire.proofs.Cases.{cases}
+use Rattle.packet_length.specs.Length.{limit, sized}
+use Rattle.packet_length.proofs.Laws.{sized-fits}
 use Rattle.checksum.specs.Ones.{_⊕_, words, onesSum}
-use Rattle.checksum.specs.Icmpv6.{pseudoWords, sumOf, withField, checksumOf, packetLimit, payloadLimit, valid, invalid, verdictOf}
+use Rattle.checksum.specs.Icmpv6.{pseudoWords, sumOf, withField, checksumOf, payloadLimit, valid, invalid, verdictOf}
 use Rattle.checksum.specs.Fields.{isValid, validFields}
 use Rattle.checksum.specs.Running.{Bytes, plainSum, lowFirst, folded, swapped}
 use Rattle.checksum.proofs.Folding.{folded-fills, folded-positive, filled, filled-by-all, filled-twice}
@@ -37,10 +39,10 @@ tells false = refl
 same-test : (a b c d : ℕ) → (a ≡ b → c ≡ d) → (c ≡ d → a ≡ b) → eqb a b ≡ eqb c d
 same-test a b c d p q = cases a b (λ e. eq-eqb a b e ∙ sym (eq-eqb c d (p e))) (λ n. ne-eqb a b n ∙ sym (ne-eqb c d (λ e. n (q e))))
 
-module _ {source destination packet : List ℕ} (hs : Bytes source) (hd : Bytes destination) (hp : Bytes packet) (head : 8 ≤ length packet) (limit : length packet ≤ packetLimit) where
+module _ {source destination packet : List ℕ} (hs : Bytes source) (hd : Bytes destination) (hp : Bytes packet) (low : 8 ≤ length packet) (high : length packet ≤ limit) where
   sum-with : (f : ℕ) → f < 65536 → sumOf source destination (withField packet f) ≡ folded (others source destination packet + f)
   sum-with f h =
-      sumOf-folded hs hd (below-set 3 (below-set 2 hp (omega arith)) (omega arith)) (simp length-set limit)
+      sumOf-folded hs hd (below-set 3 (below-set 2 hp (omega arith)) (omega arith)) (simp length-set high)
       ∙ ap folded (simp length-set (omega (arith, word-replaced packet 2 f refl (omega arith) h, word-replaced packet 2 0 refl (omega arith) (omega arith))))
 
   checksum-is : checksumOf source destination packet ≡ 65535 - folded (others source destination packet)
@@ -50,7 +52,7 @@ module _ {source destination packet : List ℕ} (hs : Bytes source) (hd : Bytes 
   -- with a field in it the packet has its length still, so the verdict is that of the sum
   verdict-with : (f : ℕ) → verdictOf source destination (withField packet f) ≡ cond (eqb (sumOf source destination (withField packet f)) 65535) valid invalid
   unfolding verdictOf
-  verdict-with f = simp (length-set, le-ltb (length packet) 8 head, le-ltb packetLimit (length packet) limit)
+  verdict-with f = simp (length-set, sized-fits (length packet) low high)
 
   fills : sumOf source destination (withField packet (checksumOf source destination packet)) ≡ 65535
   fills =
@@ -108,5 +110,5 @@ sent-validates {source} {destination} {head} {payload} hs hd hh hp eight l =
 
 -- the verdict is neither always true nor always false
 pub neither-constant : (verdictOf router everyone (solicitation 0x7a 0x2c) ≡ valid) × (verdictOf router everyone (solicitation 0x7a 0x2d) ≡ invalid)
-unfolding sumOf verdictOf _⊕_
+unfolding sumOf verdictOf sized _⊕_
 neither-constant = (refl, refl)

@@ -6,6 +6,7 @@ use mathlib.Core.List.{List, [], _∷_, _++_}
 use lib.Dec.{ltb, eqb}
 use lib.ListN.{length}
 use Rattle.paper.specs.Paper.{Paper, gives, refuses}
+use Rattle.packet_length.specs.Length.{sized}
 use Rattle.checksum.specs.Ones.{words, onesSum, withWord}
 
 -- RFC 8200, section 8.1: source, destination, the packet's length as 32 bits, three zero bytes, the next header 58
@@ -24,10 +25,7 @@ withField packet n = withWord packet 2 n
 unfoldable pub checksumOf : List ℕ → List ℕ → List ℕ → ℕ
 checksumOf source destination packet = 65535 - sumOf source destination (withField packet 0)
 
--- MAX_ICMPV6_BYTE_LEN, and what it leaves after a head of eight bytes
-abbrev pub packetLimit : ℕ
-packetLimit = 4294967295
-
+-- what MAX_ICMPV6_BYTE_LEN leaves after a head of eight bytes
 abbrev pub payloadLimit : ℕ
 payloadLimit = 4294967287
 
@@ -47,6 +45,4 @@ invalid = gives (0 ∷ [])
 -- refusals 1 and 2, or the verdict
 unfoldable pub verdictOf : List ℕ → List ℕ → List ℕ → Paper
 verdictOf source destination packet =
-    cond (ltb (length packet) 8) (refuses 1 (8 ∷ length packet ∷ []))
-    (cond (ltb packetLimit (length packet)) (refuses 2 (packetLimit ∷ length packet ∷ []))
-    (cond (eqb (sumOf source destination packet) 65535) valid invalid))
+    sized (length packet) (cond (eqb (sumOf source destination packet) 65535) valid invalid)

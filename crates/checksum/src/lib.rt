@@ -6,11 +6,10 @@ ghost use Rattle.checksum.specs.Ones.{words, onesSum};
 ghost use Rattle.checksum.specs.Running.{lowFirst, folded, swapped, Part, Pseudo};
 ghost use Rattle.checksum.specs.Icmpv6.{computedOf, verdictOf};
 ghost use Rattle.checksum.specs.Told.{computed, verdict};
+use packet_length::PacketLength;
 use refusal::Refusal;
 
-// The longest packet whose length the pseudo-header can say, and the longest payload after a head of eight bytes.
-const MAX_ICMPV6_BYTE_LEN: usize = 4294967295;
-
+// The longest payload after a head of eight bytes: what the pseudo-header's length can say, less 8.
 const MAX_PAYLOAD_LEN: usize = 4294967287;
 
 // The bytes that are added up before the carries are taken round: their 32,768 words and a folded sum fit 32 bits.
@@ -29,15 +28,12 @@ pub enum Verdict {
     Refused(Refusal),
 }
 
-// The carries taken round until 16 bits are left.
+// The carries taken round until 16 bits are left: of 32 bits, two rounds do.
 fn fold(total: u32) -> u16
     ensures { λ r. ⌜ r ≡ folded total ⌝ }
 {
-    let mut t = total;
-    while 65535 < t {
-        t = t % 65536 + t / 65536;
-    }
-    t as u16
+    let t = total % 65536 + total / 65536;
+    (t % 65536 + t / 65536) as u16
 }
 
 // A 16-bit number with its two bytes exchanged.
@@ -126,22 +122,15 @@ pub fn verify(packet: &[u8], source: &[u8; 16], destination: &[u8; 16]) -> Verdi
     ensures { λ r. ⌜ verdict r ≡ verdictOf (now (source .entry)) (now (destination .entry)) (now (packet .entry)) ⌝ }
 {
     let n = packet.len();
-    if n < 8 {
-        return Verdict::Refused(Refusal::ShortPacket {
-            least: 8,
-            length: n,
-        });
-    }
-    if MAX_ICMPV6_BYTE_LEN < n {
-        return Verdict::Refused(Refusal::LongPacket {
-            limit: MAX_ICMPV6_BYTE_LEN,
-            length: n,
-        });
-    }
-    let before = pseudo_total(source, destination, n as u32);
-    if fold(before + part(packet)) == 65535 {
-        Verdict::Valid
-    } else {
-        Verdict::Invalid
+    match packet_length::check_len(n) {
+        PacketLength::Refused(why) => Verdict::Refused(why),
+        PacketLength::Fits => {
+            let before = pseudo_total(source, destination, n as u32);
+            if fold(before + part(packet)) == 65535 {
+                Verdict::Valid
+            } else {
+                Verdict::Invalid
+            }
+        }
     }
 }

@@ -1,2 +1,3 @@
 pub mod Mtu
 pub mod LinkLayer
+pub mod Cases

@@ -1,5 +1,5 @@
 // The source and the target link-layer address option (RFC 4861, section 4.6.1): 1 or 2, units, the address.
-// Port of source_link_layer_address_option_slice.rs and target_link_layer_address_option_slice.rs, whose tests are those of the redirected header.
+// For source_ and target_link_layer_address_option_slice.rs, by the tests of the redirected header (docs/DECISIONS.md).
 ghost use mathlib.Core.Path.{_≡_};
 ghost use Rattle.ndp_option_read.specs.Rule.{readTold, sizedOf, partFrom};
 ghost use Rattle.ndp_option.specs.LinkLayer.{typeOf};

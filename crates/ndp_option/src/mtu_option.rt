@@ -6,6 +6,10 @@ use refusal::LengthUnits;
 use refusal::NdpOptionType;
 use refusal::Refusal;
 
+const MTU: NdpOptionType = NdpOptionType(5);
+
+const LENGTH_UNITS: LengthUnits = LengthUnits(1);
+
 pub enum MtuOption {
     Mtu(u32),
     Refused(Refusal),
@@ -15,7 +19,7 @@ impl MtuOption {
     pub fn from_slice(slice: &[u8]) -> MtuOption
         ensures { λ r. ⌜ mtuTold r ≡ mtuOf (now (slice .entry)) ⌝ }
     {
-        match ndp_option_read::exactly(NdpOptionType(5), LengthUnits(1), slice) {
+        match ndp_option_read::exactly(MTU, LENGTH_UNITS, slice) {
             NdpOptionRead::Accepted => {
                 MtuOption::Mtu(wire::u32_from_be(slice[4], slice[5], slice[6], slice[7]))
             }

@@ -5,15 +5,19 @@ ghost use Rattle.ndp_option_read.specs.Rule.{readTold, sizedOf, partFrom};
 use ndp_option_read::NdpOptionRead;
 use refusal::NdpOptionType;
 
+const REDIRECTED_HEADER: NdpOptionType = NdpOptionType(4);
+
+const FIXED_PART_LEN: usize = 8;
+
 pub fn from_slice(slice: &[u8]) -> NdpOptionRead
     ensures { λ r. ⌜ readTold r ≡ sizedOf 4 (now (slice .entry)) ⌝ }
 {
-    ndp_option_read::sized(NdpOptionType(4), slice)
+    ndp_option_read::sized(REDIRECTED_HEADER, slice)
 }
 
 // The redirected packet, with the padding that may stand behind it; no bytes of an option that is refused.
 pub fn redirected_packet(slice: &[u8]) -> &[u8]
     ensures { λ r. ⌜ now r ≡ partFrom 8 (sizedOf 4 (now (slice .entry))) (now (slice .entry)) ⌝ }
 {
-    crate::part(from_slice(slice), slice, 8)
+    crate::part(from_slice(slice), slice, FIXED_PART_LEN)
 }

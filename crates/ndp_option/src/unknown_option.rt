@@ -1,4 +1,4 @@
-// An option of a type that is not looked at: handed out as it stands. Port of unknown_ndp_option_slice.rs.
+// An option whose type is not looked at: handed out as it stands. For unknown_ndp_option_slice.rs (docs/DECISIONS.md).
 ghost use mathlib.Core.Path.{_≡_};
 ghost use lib.ListN.{getD};
 ghost use Rattle.ndp_option_read.specs.Rule.{readTold, sizedOf};

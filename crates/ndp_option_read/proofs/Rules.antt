@@ -10,7 +10,7 @@ use native.Mathlib.Decide.{decLe, ℕ-discrete}
 use Rattle.paper.specs.Paper.{Paper, gives}
 use Rattle.ndp_option_header.specs.Header.{bytesOf, headerBytes}
 use Rattle.ndp_option_header.specs.declared.NdpOptionHeader.{NdpOptionHeader}
-use Rattle.ndp_option_read.specs.Rule.{exactlyOf, sizedOf}
+use Rattle.ndp_option_read.specs.Rule.{exactlyOf, headed, sizedOf}
 
 -- the two bytes of a header
 pub first : (h : NdpOptionHeader) {a b : ℕ} → headerBytes h ≡ a ∷ b ∷ [] → a ≡ h .«option_type» .0
@@ -46,6 +46,11 @@ module _ (id units : ℕ) (s : List ℕ) where
   pub exactly-accepts : Exact → exactlyOf id units s ≡ gives []
   unfolding exactlyOf
   exactly-accepts h = simp (eq-eqb _ _ (h .size), eq-eqb _ _ (h .kind), eq-eqb _ _ (h .says))
+
+  -- of bytes of the right number the header alone is judged: refusal 5 cannot come
+  pub exactly-headed : length s ≡ bytesOf units → exactlyOf id units s ≡ headed id units s
+  unfolding exactlyOf
+  exactly-headed size = simp (eq-eqb _ _ size)
 
 module _ (id : ℕ) (s : List ℕ) where
   pub record Sized : Type 0 where

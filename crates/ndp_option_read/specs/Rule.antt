@@ -19,12 +19,17 @@ readTold (Refused why) = refusal why
 abbrev differ : ℕ → ℕ → Bool
 differ m n = not (eqb m n)
 
--- an option of a fixed size: the size, then both bytes of the header
+-- both bytes of the header
+abbrev pub headed : ℕ → ℕ → List ℕ → Paper
+headed id units s =
+    cond (differ (getD s 0 0) id || differ (getD s 1 0) units) (refuses 8 (id ∷ getD s 0 0 ∷ units ∷ getD s 1 0 ∷ []))
+    (gives [])
+
+-- an option of a fixed size: the size, then the header
 unfoldable pub exactlyOf : ℕ → ℕ → List ℕ → Paper
 exactlyOf id units s =
     cond (differ (length s) (bytesOf units)) (refuses 5 (id ∷ bytesOf units ∷ length s ∷ []))
-    (cond (differ (getD s 0 0) id || differ (getD s 1 0) units) (refuses 8 (id ∷ getD s 0 0 ∷ units ∷ getD s 1 0 ∷ []))
-    (gives []))
+    (headed id units s)
 
 -- an option of any size: under 8 bytes, type, unit 0, size not 8 times the unit. Refusal 8 repeats the actual unit as the expected one
 unfoldable pub sizedOf : ℕ → List ℕ → Paper

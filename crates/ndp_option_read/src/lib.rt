@@ -24,12 +24,12 @@ pub fn exactly(id: NdpOptionType, units: LengthUnits, slice: &[u8]) -> NdpOption
         option_type: id,
         length_units: units,
     };
-    let size = expected.byte_len();
+    let wanted = expected.byte_len();
     let length = slice.len();
-    if length != size {
+    if length != wanted {
         return NdpOptionRead::Refused(Refusal::UnexpectedSize {
             id: id,
-            expected: size,
+            expected: wanted,
             actual: length,
         });
     }
@@ -47,7 +47,8 @@ pub fn exactly(id: NdpOptionType, units: LengthUnits, slice: &[u8]) -> NdpOption
     NdpOptionRead::Accepted
 }
 
-// An option of any size from one unit up: a unit's bytes, its type, a length that is not 0, and the bytes that it says.
+// An option of any size: a unit's bytes at least, its type, a length that is not 0, and the bytes that it says.
+// It has no number of units to expect, so where the type is another the actual one is told twice.
 pub fn sized(id: NdpOptionType, slice: &[u8]) -> NdpOptionRead
     ensures { λ r. ⌜ readTold r ≡ sizedOf (id .0) (now (slice .entry)) ⌝ }
 {
@@ -61,16 +62,16 @@ pub fn sized(id: NdpOptionType, slice: &[u8]) -> NdpOptionRead
     }
     let header = header_at(slice);
     let actual = header.option_type;
-    let units = header.length_units;
+    let length_units = header.length_units;
     if actual.0 != id.0 {
         return NdpOptionRead::Refused(Refusal::UnexpectedHeader {
             expected: id,
             actual: actual,
-            expected_units: units,
-            actual_units: units,
+            expected_units: length_units,
+            actual_units: length_units,
         });
     }
-    if units.0 == 0 {
+    if length_units.0 == 0 {
         return NdpOptionRead::Refused(Refusal::ZeroLength { id: id });
     }
     let size = header.byte_len();

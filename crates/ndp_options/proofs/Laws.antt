@@ -3,7 +3,7 @@
 -- Assumes nothing.
 use Prim.Native.Nat.{ℕ, _+_, _/_, _≤_, _<_}
 use mathlib.Core.Path.{_≡_, refl, sym, _∙_, ap}
-use mathlib.Core.Logic.{_≢_}
+use mathlib.Core.Logic.{_⊎_}
 use mathlib.Core.Bool.{true, false}
 use mathlib.Core.List.{List, [], _++_, map}
 use native.Mathlib.Omega.{arith}
@@ -25,6 +25,7 @@ use Rattle.ndp_options.specs.declared.Cursor.{Cursor}
 use Rattle.ndp_options.specs.declared.Step.{Step}
 use Rattle.ndp_options.specs.declared.Step.the-variants.{End, Refused, Stopped}
 use Rattle.ndp_options.proofs.Told.{step-lossless}
+use Rattle.ndp_options.proofs.Reasons.{five-to-seven, missing-means}
 use Rattle.ndp_options.proofs.Steps.{ended-at, refused-at}
 
 -- ---- one walk
@@ -48,6 +49,14 @@ module _ (s : List ℕ) where
   -- their number is at most the length divided by 8
   pub at-most : length (walk s .items) ≤ length s / 8
   at-most = every.at-most rule s
+
+  -- a refusal is 5, 6 or 7, never 8
+  pub refusals : {at : ℕ} {why : Paper} → walk s .ending ≡ RefusedAt at why → (5 ≤ why .number) × (why .number ≤ 7)
+  refusals e = five-to-seven s e
+
+  -- missing bytes are refusal 7 of any type and the refusal 5 of a one-byte remainder, and nothing else
+  pub missing-bytes : {at : ℕ} {why : Paper} → walk s .ending ≡ RefusedAt at why → missing why ≡ true → (why .number ≡ 7) ⊎ ((why .number ≡ 5) × (at + 1 ≡ length s))
+  missing-bytes e m = missing-means s e m
 
 -- whole options, one after the other, are walked clean: a walker that always refuses is shut out
 pub options-clean : (os : List (List ℕ)) → Each (Whole rule) os → walk (concat os) ≡ record { items = placed rule 0 os; ending = Clean }

@@ -1,7 +1,7 @@
 pub mod Rule
 pub mod Told
+pub mod Reasons
 pub mod Steps
-pub mod Whole
 pub mod Laws
 pub mod Examples
 pub mod Unique

@@ -20,13 +20,16 @@ use Rattle.ndp_walk.proofs.Judging.{known, empty, cut, whole}
 use Rattle.ndp_options.specs.Rule.{kindOf, askedOf, ruleOf, rule}
 
 -- its refusals are refusal 5
-pub numbered : Numbered rule
+pub misfits : (o : List ℕ) (why : Paper) → rule o ≡ Misfits why → refuses 5 (getD o 0 0 ∷ askedOf (getD o 0 0) (length o) ∷ length o ∷ []) ≡ why
 unfolding rule
-numbered o why e = go (eqb (length o) (askedOf (getD o 0 0) (length o))) e
+misfits o why e = go (eqb (length o) (askedOf (getD o 0 0) (length o))) e
   where
-    go : (b : Bool) → cond b (Fits (kindOf (getD o 0 0))) (Misfits (refuses 5 (getD o 0 0 ∷ askedOf (getD o 0 0) (length o) ∷ length o ∷ []))) ≡ Misfits why → 0 < why .number
-    go true e = absurd (let z : _≡_ {A = ℕ} 0 1 = cc in omega arith)
-    go false e = let same : refuses 5 (getD o 0 0 ∷ askedOf (getD o 0 0) (length o) ∷ length o ∷ []) ≡ why = cc in rw (← same) (lit≤ tt)
+    go : (b : Bool) → cond b (Fits (kindOf (getD o 0 0))) (Misfits (refuses 5 (getD o 0 0 ∷ askedOf (getD o 0 0) (length o) ∷ length o ∷ []))) ≡ Misfits why → refuses 5 (getD o 0 0 ∷ askedOf (getD o 0 0) (length o) ∷ length o ∷ []) ≡ why
+    go true e = cc
+    go false e = cc
+
+pub numbered : Numbered rule
+numbered o why e = rw (← misfits o why e) (lit≤ tt)
 
 module _ (l : List ℕ) (h : NdpOptionHeader) (r : HeaderOf l h) where
   abbrev id : ℕ

@@ -9,15 +9,11 @@ use lib.ListN.{getD}
 use Rattle.paper.proofs.Lossless.{lossless}
 use Rattle.refusal.proofs.Paper.{refusalOf, refusal-back, refusal-numbered}
 use Rattle.ndp_walk.specs.Step.{Told}
-use Rattle.ndp_options.specs.Told.{kindNumber, stepTold, countTold, occursTold}
+use Rattle.ndp_options.specs.Told.{kindNumber, stepTold}
 use Rattle.ndp_options.specs.declared.NdpOptionKind.{NdpOptionKind}
 use Rattle.ndp_options.specs.declared.NdpOptionKind.the-variants.{Unknown, SourceLinkLayerAddress, TargetLinkLayerAddress, PrefixInformation, RedirectedHeader, Mtu}
 use Rattle.ndp_options.specs.declared.Step.{Step}
 use Rattle.ndp_options.specs.declared.Step.the-variants.{Handed, End, Refused, Stopped}
-use Rattle.ndp_options.specs.declared.Counted.{Counted}
-use Rattle.ndp_options.specs.declared.Counted.the-variants.{All, Refused as CountRefused}
-use Rattle.ndp_options.specs.declared.Occurs.{Occurs}
-use Rattle.ndp_options.specs.declared.Occurs.the-variants.{Yes, No, Refused as OccursRefused}
 
 abbrev kindBack : ℕ → NdpOptionKind
 kindBack k =
@@ -36,7 +32,6 @@ kind-back PrefixInformation = refl
 kind-back RedirectedHeader = refl
 kind-back Mtu = refl
 
--- ---- steps
 abbrev given : ℕ → List ℕ → ℕ → Step
 given which v next =
     cond (eqb which 0) End
@@ -56,25 +51,3 @@ step-back Stopped = refl
 
 pub step-lossless : (x y : Step) → stepTold x ≡ stepTold y → x ≡ y
 step-lossless = lossless stepTold stepBack step-back
-
--- ---- whole walks
-abbrev countBack : Told → Counted
-countBack t = cond (eqb (t .paper .number) 0) (All (getD (t .paper .values) 0 0)) (CountRefused (refusalOf (t .paper)) (t .place))
-
-count-back : (x : Counted) → countBack (countTold x) ≡ x
-count-back (All n) = refl
-count-back (CountRefused why at) = simp (refusal-numbered why, refusal-back why)
-
-pub count-lossless : (x y : Counted) → countTold x ≡ countTold y → x ≡ y
-count-lossless = lossless countTold countBack count-back
-
-abbrev occursBack : Told → Occurs
-occursBack t = cond (eqb (t .paper .number) 0) (cond (eqb (getD (t .paper .values) 0 0) 1) Yes No) (OccursRefused (refusalOf (t .paper)) (t .place))
-
-occurs-back : (x : Occurs) → occursBack (occursTold x) ≡ x
-occurs-back Yes = refl
-occurs-back No = refl
-occurs-back (OccursRefused why at) = simp (refusal-numbered why, refusal-back why)
-
-pub occurs-lossless : (x y : Occurs) → occursTold x ≡ occursTold y → x ≡ y
-occurs-lossless = lossless occursTold occursBack occurs-back

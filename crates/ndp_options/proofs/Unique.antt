@@ -5,13 +5,11 @@ use mathlib.Core.Path.{refl, sym, _∙_, ap}
 use denote.Ref.{now}
 use Rattle.paper.specs.Only.{Only, OnlyBy}
 use Rattle.paper.proofs.Facts.{one}
-use Rattle.ndp_options.proofs.Told.{step-lossless, count-lossless, occurs-lossless}
+use Rattle.ndp_options.proofs.Told.{step-lossless}
 use Rattle.ndp_options.proofs.NdpOption.bytes as bytes
 use Rattle.ndp_options.proofs.Cursor.new as new
 use Rattle.ndp_options.proofs.Cursor.rest as rest
 use Rattle.ndp_options.proofs.Cursor.step as step
-use Rattle.ndp_options.proofs.count as count
-use Rattle.ndp_options.proofs.has_type as has-type
 
 -- of a slice that is handed back, its bytes
 pub bytes-unique : OnlyBy bytes.ended (λ κs. now) (λ M 𝓤. bytes.clauses 𝓤)
@@ -25,9 +23,3 @@ rest-unique M 𝓤 H A m f κs a g x y v w = one 𝓤 (λ p q. (p ∙ sym q, ref
 
 pub step-unique : Only step.ended (λ M 𝓤. step.clauses 𝓤)
 step-unique M 𝓤 H A m f κs a g x y v w = one 𝓤 (λ p q. (step-lossless x y (p ∙ sym q), refl))
-
-pub count-unique : Only count.ended (λ M 𝓤. count.clauses 𝓤)
-count-unique M 𝓤 H A m f κs a g x y v w = one 𝓤 (λ p q. (count-lossless x y (p ∙ sym q), refl))
-
-pub has-type-unique : Only has-type.ended (λ M 𝓤. has-type.clauses 𝓤)
-has-type-unique M 𝓤 H A m f κs a g x y v w = one 𝓤 (λ p q. (occurs-lossless x y (p ∙ sym q), refl))

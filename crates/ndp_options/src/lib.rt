@@ -1,13 +1,11 @@
 // The option walk of Neighbor Discovery (RFC 4861, section 4.6; document 01, "The option walk"), as a cursor by value over the option bytes.
 // Port of ndp_options_iterator.rs, with the two endings of a walk told apart: `End` at the end, `Stopped` after a refusal.
 ghost use mathlib.Core.Path.{_≡_};
-ghost use mathlib.Core.Bool.{true, cond};
-ghost use lib.Dec.{eqb};
 ghost use lib.ListN.{drop, take};
 ghost use Rattle.ndp_walk.specs.Judge.{judge};
 ghost use Rattle.ndp_options.specs.Rule.{rule, askedOf, kindOf};
-ghost use Rattle.ndp_options.specs.Walk.{stepOf, countOf, occursOf, tallyOf};
-ghost use Rattle.ndp_options.specs.Told.{kindNumber, judgedTold, stepTold, countTold, occursTold, tallyTold};
+ghost use Rattle.ndp_options.specs.Walk.{stepOf};
+ghost use Rattle.ndp_options.specs.Told.{kindNumber, judgedTold, stepTold};
 use ndp_option_header::HeaderRead;
 use ndp_option_header::NdpOptionHeader;
 use refusal::NdpOptionType;
@@ -44,30 +42,11 @@ pub enum Step {
     Stopped,
 }
 
-// How many options there are, or why and where the walk was refused.
-pub enum Counted {
-    All(usize),
-    Refused(Refusal, usize),
-}
-
-// Whether a type occurs, or why and where the walk was refused.
-pub enum Occurs {
-    Yes,
-    No,
-    Refused(Refusal, usize),
-}
-
 // What stands at the head of a rest: nothing, no option, or an option of so many bytes.
 enum Judged {
     Over,
     Bad(Refusal),
     Good(NdpOptionKind, NdpOptionType, usize),
-}
-
-// Of a whole walk: how many options, and whether one of the type asked for.
-enum Tally {
-    All(usize, bool),
-    Refused(Refusal, usize),
 }
 
 fn kind_of(id: NdpOptionType) -> NdpOptionKind
@@ -135,26 +114,6 @@ fn judge(rest: &[u8]) -> Judged
     }
 }
 
-impl NdpOption {
-    // The option's own bytes: as many of them as the slice has.
-    pub fn bytes(self, options: &[u8]) -> &[u8]
-        ensures { λ r. ⌜ now r ≡ take (self .len) (drop (self .at) (now (options .entry))) ⌝ }
-    {
-        let at = self.at;
-        let len = self.len;
-        let n = options.len();
-        if n < at {
-            return &options[..0];
-        }
-        if n - at < len {
-            &options[at..]
-        } else {
-            let end = at + len;
-            &options[at..end]
-        }
-    }
-}
-
 impl Cursor {
     // The cursor of a walk that begins.
     pub fn new() -> Self
@@ -167,9 +126,9 @@ impl Cursor {
     pub fn rest(self, options: &[u8]) -> &[u8]
         ensures { λ r. ⌜ now r ≡ drop (self .at) (now (options .entry)) ⌝ }
     {
-        let at = self.at;
-        if at <= options.len() {
-            &options[at..]
+        let from = self.at;
+        if from <= options.len() {
+            &options[from..]
         } else {
             &options[..0]
         }
@@ -186,7 +145,10 @@ impl Cursor {
         }
         match judge(&options[at..]) {
             Judged::Over => Step::End,
-            Judged::Bad(why) => Step::Refused(why, Cursor { at: n + 1 }),
+            Judged::Bad(why) => {
+                let beyond = n + 1;
+                Step::Refused(why, Cursor { at: beyond })
+            }
             Judged::Good(kind, id, len) => {
                 let option = NdpOption {
                     kind,
@@ -194,58 +156,25 @@ impl Cursor {
                     at,
                     len,
                 };
-                Step::Handed(option, Cursor { at: at + len })
+                let next = at + len;
+                Step::Handed(option, Cursor { at: next })
             }
         }
     }
 }
 
-fn found_by(found: bool, id: NdpOptionType, wanted: NdpOptionType) -> bool
-    ensures { λ r. ⌜ r ≡ cond found true (eqb (id .0) (wanted .0)) ⌝ }
-{
-    if found { true } else { id.0 == wanted.0 }
-}
-
-// The whole walk, once.
-fn walk_all(options: &[u8], wanted: NdpOptionType) -> Tally
-    ensures { λ r. ⌜ tallyTold r ≡ tallyOf (wanted .0) (now (options .entry)) ⌝ }
-{
-    let mut c = Cursor::new();
-    let mut n: usize = 0;
-    let mut found = false;
-    loop {
-        let at = c.at;
-        match c.step(options) {
-            Step::Handed(option, next) => {
-                let id = option.option_type;
-                n += 1;
-                found = found_by(found, id, wanted);
-                c = next;
-            }
-            Step::End => return Tally::All(n, found),
-            Step::Refused(why, _) => return Tally::Refused(why, at),
-            // Never: a cursor that a step hands on is within the bytes.
-            Step::Stopped => return Tally::All(n, found),
+impl NdpOption {
+    // The option's own bytes, as a part of the list that it was handed out of: as many of them as the list has.
+    pub fn bytes(self, options: &[u8]) -> &[u8]
+        ensures { λ r. ⌜ now r ≡ take (self .len) (drop (self .at) (now (options .entry))) ⌝ }
+    {
+        let len = self.len;
+        let here = Cursor { at: self.at };
+        let rest = here.rest(options);
+        if len <= rest.len() {
+            &rest[..len]
+        } else {
+            rest
         }
-    }
-}
-
-// How many options the bytes are, or the refusal and its place.
-pub fn count(options: &[u8]) -> Counted
-    ensures { λ r. ⌜ countTold r ≡ countOf (now (options .entry)) ⌝ }
-{
-    match walk_all(options, NdpOptionType(0)) {
-        Tally::All(n, _) => Counted::All(n),
-        Tally::Refused(why, at) => Counted::Refused(why, at),
-    }
-}
-
-// Whether an option of the type occurs, or the refusal and its place: of a refused walk it is not known.
-pub fn has_type(options: &[u8], wanted: NdpOptionType) -> Occurs
-    ensures { λ r. ⌜ occursTold r ≡ occursOf (wanted .0) (now (options .entry)) ⌝ }
-{
-    match walk_all(options, wanted) {
-        Tally::All(_, found) => { if found { Occurs::Yes } else { Occurs::No } }
-        Tally::Refused(why, at) => Occurs::Refused(why, at),
     }
 }

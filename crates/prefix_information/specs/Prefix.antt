@@ -8,7 +8,7 @@ use Rattle.paper.specs.Paper.{Paper}
 use Rattle.wire.specs.Wire.{word32, bytes32, hasFlag, flagOf}
 use Rattle.prefix_information.specs.declared.PrefixInformation.{PrefixInformation}
 use Rattle.prefix_information.specs.declared.PrefixInformationRead.{PrefixInformationRead}
-use Rattle.ndp_option_read.specs.Rule.{readTold, exactlyOf, ifRead}
+use Rattle.ndp_option_read.specs.Rule.{readTold, headed, exactlyOf, ifRead}
 
 -- what the bytes say: 128 is on-link, 64 autonomous; the other bits of the flags and the bytes 12 to 15 are reserved
 abbrev pub informationAt : List ℕ → PrefixInformation
@@ -50,6 +50,14 @@ told p i = record { paper = p; information = i }
 abbrev pub prefixTold : PrefixInformationRead → Told
 prefixTold r = told (readTold (r .answer)) (r .information)
 
--- type 3 of four units: what it says, and nothing where it is refused
+-- by the rule's answer: what the bytes say, and nothing where it refuses
+abbrev pub prefixBy : Paper → List ℕ → Told
+prefixBy p s = told p (ifRead p (informationAt s) nothing)
+
+-- 32 bytes: the header is judged alone
+unfoldable pub prefixOf32 : List ℕ → Told
+prefixOf32 s = prefixBy (headed 3 4 s) s
+
+-- any bytes: first their number
 unfoldable pub prefixOf : List ℕ → Told
-prefixOf s = told (exactlyOf 3 4 s) (ifRead (exactlyOf 3 4 s) (informationAt s) nothing)
+prefixOf s = prefixBy (exactlyOf 3 4 s) s

@@ -1,12 +1,14 @@
 // The prefix information option (RFC 4861, section 4.6.2). Port of prefix_information.rs.
 ghost use mathlib.Core.Path.{_≡_};
 ghost use lib.ListN.{length, drop};
-ghost use Rattle.prefix_information.specs.Prefix.{prefixTold, prefixOf, informationAt, bytesOf};
+ghost use Rattle.prefix_information.specs.Prefix.{prefixTold, prefixOf32, prefixOf, informationAt, bytesOf};
 use ndp_option_read::NdpOptionRead;
 use refusal::LengthUnits;
 use refusal::NdpOptionType;
 
-pub const LEN: usize = 32;
+const PREFIX_INFORMATION: NdpOptionType = NdpOptionType(3);
+
+const LENGTH_UNITS: LengthUnits = LengthUnits(4);
 
 const ON_LINK_MASK: u8 = 128;
 
@@ -31,7 +33,7 @@ pub struct PrefixInformationRead {
 
 impl PrefixInformation {
     pub fn from_bytes(bytes: [u8; 32]) -> PrefixInformationRead
-        ensures { λ r. ⌜ prefixTold r ≡ prefixOf bytes ⌝ }
+        ensures { λ r. ⌜ prefixTold r ≡ prefixOf32 bytes ⌝ }
     {
         PrefixInformation::from_slice(&bytes)
     }
@@ -39,7 +41,7 @@ impl PrefixInformation {
     pub fn from_slice(slice: &[u8]) -> PrefixInformationRead
         ensures { λ r. ⌜ prefixTold r ≡ prefixOf (now (slice .entry)) ⌝ }
     {
-        match ndp_option_read::exactly(NdpOptionType(3), LengthUnits(4), slice) {
+        match ndp_option_read::exactly(PREFIX_INFORMATION, LENGTH_UNITS, slice) {
             NdpOptionRead::Accepted => PrefixInformationRead {
                 answer: NdpOptionRead::Accepted,
                 information: information_in(slice),

@@ -1,38 +1,27 @@
--- `fold` meets its contract: each turn takes one carry round, which changes no fold, and makes the total smaller.
+-- `fold` meets its contract: a round changes no fold, and after two 16 bits are left.
 -- Assumes nothing.
 use Rattle.checksum.proofs.Folding.{folded-carry, folded-small}
-use Rattle.checksum.specs.Running.{folded}
+use mathlib.Core.Path.{sym, _∙_}
+use Prim.Native.Nat.{_+_, _/_, _%_, _<_}
 use borrow.Author.Needs.{needs}
-use native.Mathlib.Omega.{arith}
-use mathlib.Core.Path.{_≡_, sym, _∙_}
-use Prim.Native.Nat.{_<_, _^_}
 use Rattle.checksum.proofs.fold.Statement.{statement}
 use Rattle.checksum.proofs.fold.Tie as tie
 
-abbrev Inv-loop : tie.InvT-loop
-Inv-loop total t₀ t = (t < 2 ^ 32) × (folded t ≡ folded total)
+add-t : tie.Need-add-t
+add-t c = search needs
 
-abbrev μ-loop : tie.MeasureT-loop
-μ-loop total t₀ t = t
+add-result : tie.Need-add-result
+add-result c = search needs
 
-loop-holds : tie.Need-loop-holds Inv-loop μ-loop
-loop-holds c = search needs
+cast-result : tie.Need-cast-result
+cast-result c = search needs
 
-add-t : tie.Need-add-t Inv-loop μ-loop
-add-t c = omega arith
-
-loop-less : tie.Need-loop-less Inv-loop μ-loop
-loop-less c = omega arith
-
-loop-again : tie.Need-loop-again Inv-loop μ-loop
-loop-again c = (omega arith, folded-carry (c .before .loop .t) ∙ c .before .loop .inv .1)
-
-cast-result : tie.Need-cast-result Inv-loop μ-loop
-cast-result c = omega arith
-
-returns : tie.Need-returns Inv-loop μ-loop
-returns c = sym (folded-small (omega arith)) ∙ c .before .loop .inv .1
+returns : tie.Need-returns
+returns c =
+    let n = c .args .total in
+    let t = n % 65536 + n / 65536 in
+    let small : t % 65536 + t / 65536 < 65536 = search needs in
+    sym (folded-small small) ∙ folded-carry t ∙ folded-carry n
 
 pub fold-spec : {M : Type 1} → statement M
-fold-spec =
-    tie.close (tie.spec Inv-loop μ-loop loop-holds add-t loop-less loop-again cast-result returns)
+fold-spec = tie.close (tie.spec add-t add-result cast-result returns)

@@ -1,24 +1,32 @@
--- `verify` meets its contract: each answer follows from the tests that led to it.
+-- `verify` meets its contract: a length that is refused is refused with the same numbers, and else the fold is the sum of the packet.
 -- Assumes nothing.
-use Rattle.checksum.proofs.Packets.{sum-of-totals}
-use Rattle.checksum.specs.Icmpv6.{sumOf, verdictOf}
-use borrow.Author.Tests.{lt-ltb, le-ltb, eq-eqb, ne-eqb}
+use mathlib.Core.Path.{_≡_, refl, sym, ap, _∙_}
 use native.Mathlib.Omega.{arith}
-use mathlib.Core.Path.{_≡_, refl, sym, _∙_}
+use lib.ListN.{length}
+use borrow.Author.Tests.{eq-eqb, ne-eqb}
+use Rattle.packet_length.specs.Length.{told as lengthTold}
+use Rattle.packet_length.proofs.Laws.{Between, passed, sized-fits, refused}
+use Rattle.checksum.specs.Icmpv6.{sumOf, verdictOf}
+use Rattle.checksum.proofs.Packets.{sum-of-totals}
 use borrow.Author.Needs.{needs}
 use Rattle.checksum.proofs.verify.Statement.{statement}
 use Rattle.checksum.proofs.verify.Tie as tie
 
-returns : tie.Need-returns
-unfolding verdictOf
-returns c = simp (lt-ltb _ _ (c .if1 .taken))
+check-len-requires : tie.Need-check-len-requires
+check-len-requires c κs = search needs
 
-returns-2 : tie.Need-returns-2
-unfolding verdictOf
-returns-2 c = simp (le-ltb _ _ (c .before .if1 .left), lt-ltb _ _ (c .if2 .taken))
+enum-known-why : tie.Need-enum-known-why
+enum-known-why c = search needs
+
+enum-told : tie.Need-enum-told
+enum-told c = search needs
+
+-- past the test of the length
+fits : (c : tie.After-enum-told) → Between (length (c .before .before .before .before .args .packet .now))
+fits c = passed _ (ap lengthTold (sym (c .enum-told .given .1)) ∙ c .before .before .check-len .ensures)
 
 cast-pseudo-total : tie.Need-cast-pseudo-total
-cast-pseudo-total c = search needs
+cast-pseudo-total c = omega (arith, fits c)
 
 pseudo-total-requires : tie.Need-pseudo-total-requires
 pseudo-total-requires c κs = search needs
@@ -32,34 +40,36 @@ add-fold c = search needs
 fold-requires : tie.Need-fold-requires
 fold-requires c κs = search needs
 
--- the fold is the packet's sum
-folds : (c : tie.After-fold) → let a = c .before .before .before .before .before .before .args in sumOf (a .source .now) (a .destination .now) (a .packet .now) ≡ c .fold .result
+-- the fold is the sum of the packet
+folds : (c : tie.After-fold) → let a = c .before .before .before .before .before .before .before .args in sumOf (a .source .now) (a .destination .now) (a .packet .now) ≡ c .fold .result
 folds c =
     let packet = c .before .part .ensures in
-    sum-of-totals _ refl (omega arith) (c .before .before .pseudo-total .ensures) (packet .bytes) (packet .folds) (c .fold .ensures)
+    sum-of-totals _ refl (fits (c .before .before .before) .high) (c .before .before .pseudo-total .ensures) (packet .bytes) (packet .folds) (c .fold .ensures)
+
+returns : tie.Need-returns
+unfolding verdictOf
+returns c = rw (refused _ (c .before .why .given .0 .0) (ap lengthTold (sym (c .before .why .given .1)) ∙ c .before .before .before .check-len .ensures))
+
+returns-2 : tie.Need-returns-2
+unfolding verdictOf
+returns-2 c = let f = fits (c .before .before .before .before) in rw (sized-fits _ (f .low) (f .high), eq-eqb _ _ (folds (c .before) ∙ c .if1 .taken))
 
 returns-3 : tie.Need-returns-3
 unfolding verdictOf
-returns-3 c =
-    let at = c .before .before .before .before in
-    simp (le-ltb _ _ (at .before .if1 .left), le-ltb _ _ (at .if2 .left), eq-eqb _ _ (folds (c .before) ∙ c .if3 .taken))
-
-returns-4 : tie.Need-returns-4
-unfolding verdictOf
-returns-4 c =
-    let at = c .before .before .before .before in
-    simp (le-ltb _ _ (at .before .if1 .left), le-ltb _ _ (at .if2 .left), ne-eqb _ _ (λ e. c .if3 .left (sym (folds (c .before)) ∙ e)))
+returns-3 c = let f = fits (c .before .before .before .before) in rw (sized-fits _ (f .low) (f .high), ne-eqb _ _ (λ e. c .if1 .left (sym (folds (c .before)) ∙ e)))
 
 pub verify-spec : {M : Type 1} → statement M
 verify-spec =
     tie.close
     (tie.spec
-    returns
-    returns-2
+    check-len-requires
+    enum-known-why
+    enum-told
     cast-pseudo-total
     pseudo-total-requires
     part-requires
     add-fold
     fold-requires
-    returns-3
-    returns-4)
+    returns
+    returns-2
+    returns-3)

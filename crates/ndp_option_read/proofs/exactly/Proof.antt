@@ -21,11 +21,20 @@ header-at-requires c κs = search needs
 
 returns-2 : tie.Need-returns-2
 unfolding exactlyOf
-returns-2 c = let h = c .before .before .before .before .before in let e = h .header-at .ensures in ⊎-elim (λ w. simp (sym (h .before .before .byte-len .ensures), eq-eqb _ _ (h .before .if1 .left), first _ e, second _ e, ne-eqb _ _ (w .taken))) (λ w. simp (sym (h .before .before .byte-len .ensures), eq-eqb _ _ (h .before .if1 .left), first _ e, second _ e, eq-eqb _ _ (w .0 .left), w .3 .taken)) (c .if2 .came)
+returns-2 c =
+    let h = c .before .before .before .before .before in
+    let e = h .header-at .ensures in
+    ⊎-elim
+    (λ w. simp (sym (h .before .before .byte-len .ensures), eq-eqb _ _ (h .before .if1 .left), first _ e, second _ e, ne-eqb _ _ (w .taken)))
+    (λ w. simp (sym (h .before .before .byte-len .ensures), eq-eqb _ _ (h .before .if1 .left), first _ e, second _ e, eq-eqb _ _ (w .0 .left), w .3 .taken))
+    (c .if2 .came)
 
 returns-3 : tie.Need-returns-3
 unfolding exactlyOf
-returns-3 c = let h = c .before .before .before .before .before .before .before .before in let e = h .header-at .ensures in simp (sym (h .before .before .byte-len .ensures), eq-eqb _ _ (h .before .if1 .left), first _ e, second _ e, eq-eqb _ _ (c .before .before .before .if2 .left), c .if3 .left)
+returns-3 c =
+    let h = c .before .before .before .before .before .before .before .before in
+    let e = h .header-at .ensures in
+    simp (sym (h .before .before .byte-len .ensures), eq-eqb _ _ (h .before .if1 .left), first _ e, second _ e, eq-eqb _ _ (c .before .before .before .if2 .left), c .if3 .left)
 
 pub exactly-spec : {M : Type 1} → statement M
 exactly-spec =

@@ -17,22 +17,34 @@ header-at-requires c κs = search needs
 
 returns-2 : tie.Need-returns-2
 unfolding sizedOf
-returns-2 c = let h = c .before .before .before .before .before in let e = h .header-at .ensures in simp (le-ltb _ _ (h .before .if1 .left), first _ e, second _ e, ne-eqb _ _ (c .if2 .taken))
+returns-2 c =
+    let h = c .before .before .before .before .before in
+    let e = h .header-at .ensures in
+    simp (le-ltb _ _ (h .before .if1 .left), first _ e, second _ e, ne-eqb _ _ (c .if2 .taken))
 
 returns-3 : tie.Need-returns-3
 unfolding sizedOf
-returns-3 c = let h = c .before .before .before .before .before .before .before in let e = h .header-at .ensures in simp (le-ltb _ _ (h .before .if1 .left), first _ e, second _ e, eq-eqb _ _ (c .before .before .if2 .left), eq-eqb _ _ (c .if3 .taken))
+returns-3 c =
+    let h = c .before .before .before .before .before .before .before in
+    let e = h .header-at .ensures in
+    simp (le-ltb _ _ (h .before .if1 .left), first _ e, second _ e, eq-eqb _ _ (c .before .before .if2 .left), eq-eqb _ _ (c .if3 .taken))
 
 byte-len-requires : tie.Need-byte-len-requires
 byte-len-requires c κs = search needs
 
 returns-4 : tie.Need-returns-4
 unfolding sizedOf
-returns-4 c = let h = c .before .before .before .before .before .before .before .before .before in let e = h .header-at .ensures in simp (le-ltb _ _ (h .before .if1 .left), first _ e, second _ e, eq-eqb _ _ (c .before .before .before .before .if2 .left), ne-eqb _ _ (c .before .before .if3 .left), sym (c .before .byte-len .ensures), ne-eqb _ _ (c .if4 .taken))
+returns-4 c =
+    let h = c .before .before .before .before .before .before .before .before .before in
+    let e = h .header-at .ensures in
+    simp (le-ltb _ _ (h .before .if1 .left), first _ e, second _ e, eq-eqb _ _ (c .before .before .before .before .if2 .left), ne-eqb _ _ (c .before .before .if3 .left), sym (c .before .byte-len .ensures), ne-eqb _ _ (c .if4 .taken))
 
 returns-5 : tie.Need-returns-5
 unfolding sizedOf
-returns-5 c = let h = c .before .before .before .before .before .before .before .before .before in let e = h .header-at .ensures in simp (le-ltb _ _ (h .before .if1 .left), first _ e, second _ e, eq-eqb _ _ (c .before .before .before .before .if2 .left), ne-eqb _ _ (c .before .before .if3 .left), sym (c .before .byte-len .ensures), eq-eqb _ _ (c .if4 .left))
+returns-5 c =
+    let h = c .before .before .before .before .before .before .before .before .before in
+    let e = h .header-at .ensures in
+    simp (le-ltb _ _ (h .before .if1 .left), first _ e, second _ e, eq-eqb _ _ (c .before .before .before .before .if2 .left), ne-eqb _ _ (c .before .before .if3 .left), sym (c .before .byte-len .ensures), eq-eqb _ _ (c .if4 .left))
 
 pub sized-spec : {M : Type 1} → statement M
 sized-spec =

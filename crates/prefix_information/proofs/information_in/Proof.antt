@@ -50,7 +50,16 @@ prefix-in-requires : tie.Need-prefix-in-requires
 prefix-in-requires c κs = search needs
 
 returns : tie.Need-returns
-returns c = simp (c .before .before .before .before .before .before .before .before .before .before .before .before .has-flag .ensures, c .before .before .before .before .before .before .before .before .before .before .before .has-flag2 .ensures, c .before .before .before .before .before .before .u32-from-be .ensures, c .before .u32-from-be2 .ensures, c .prefix-in .ensures)
+returns c =
+    let valid = c .before .before .before .before .before .before in
+    let flag = valid .before .before .before .before .before in
+    simp (
+      flag .before .has-flag .ensures,
+      flag .has-flag2 .ensures,
+      valid .u32-from-be .ensures,
+      c .before .u32-from-be2 .ensures,
+      c .prefix-in .ensures,
+    )
 
 pub information-in-spec : {M : Type 1} → statement M
 information-in-spec =

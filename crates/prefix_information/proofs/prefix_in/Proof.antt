@@ -55,7 +55,9 @@ shared-slice-read-t33 : tie.Need-shared-slice-read-t33
 shared-slice-read-t33 c = search needs
 
 returns : tie.Need-returns
-returns c = let k = c .before .before .before .before .before .before .before .before .before .before .before .before .before .before .before .before in sym (to-the-end 16 16 (k .args .slice .now) (k .pre))
+returns c =
+    let k = c .before .before .before .before .before .before .before .before .before .before .before .before .before .before .before .before in
+    sym (to-the-end 16 16 (k .args .slice .now) (k .pre))
 
 pub prefix-in-spec : {M : Type 1} → statement M
 prefix-in-spec =

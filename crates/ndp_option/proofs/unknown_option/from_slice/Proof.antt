@@ -15,7 +15,10 @@ sized-requires : tie.Need-sized-requires
 sized-requires c κs = search needs
 
 returns : tie.Need-returns
-returns c = let s = c .before .before .before .args .slice .now in let first : c .before .if1 .id ≡ getD s 0 0 = ⊎-elim (λ w. w .1 ∙ sym (List·getD-eq-default s 0 {n = 0} (omega (arith, w .0 .taken)))) (λ w. w .2) (c .before .if1 .came) in rw (← first) (c .sized .ensures)
+returns c =
+    let s = c .before .before .before .args .slice .now in
+    let first : c .before .if1 .id ≡ getD s 0 0 = ⊎-elim (λ w. w .1 ∙ sym (List·getD-eq-default s 0 {n = 0} (omega (arith, w .0 .taken)))) (λ w. w .2) (c .before .if1 .came) in
+    rw (← first) (c .sized .ensures)
 
 pub from-slice-spec : {M : Type 1} → statement M
 from-slice-spec = tie.close (tie.spec shared-slice-read-id sized-requires returns)

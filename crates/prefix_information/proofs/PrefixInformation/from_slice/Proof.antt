@@ -23,7 +23,9 @@ enum-known-why c = search needs
 
 returns : tie.Need-returns
 unfolding prefixOf
-returns c = let e = c .before in simp (← (e .before .before .exactly .ensures), e .enum-told .given .1, c .information-in .ensures)
+returns c =
+    let e = c .before in
+    simp (← (e .before .before .exactly .ensures), e .enum-told .given .1, c .information-in .ensures)
 
 returns-2 : tie.Need-returns-2
 unfolding prefixOf

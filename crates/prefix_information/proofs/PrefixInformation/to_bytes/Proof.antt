@@ -15,7 +15,9 @@ flag-of-requires-2 : tie.Need-flag-of-requires-2
 flag-of-requires-2 c κs = search needs
 
 add-flags : tie.Need-add-flags
-add-flags c = let i = c .before .before .args .self in rw (c .before .flag-of .ensures, c .flag-of2 .ensures) (record { fits = two-fit (i .«on_link») (i .«autonomous_address_configuration») })
+add-flags c =
+    let i = c .before .before .args .self in
+    rw (c .before .flag-of .ensures, c .flag-of2 .ensures) (record { fits = two-fit (i .«on_link») (i .«autonomous_address_configuration») })
 
 u32-to-be-requires : tie.Need-u32-to-be-requires
 u32-to-be-requires c κs = search needs
@@ -96,7 +98,10 @@ array-read-t78 : tie.Need-array-read-t78
 array-read-t78 c = search needs
 
 returns : tie.Need-returns
-returns c = let prefix = c .before .before .before .before .before .args .self .prefix in let sixteen : length prefix ≡ 16 = search needs in simp (c .before .before .before .before .flag-of .ensures, c .before .before .before .flag-of2 .ensures, c .before .before .u32-to-be .ensures, c .before .u32-to-be2 .ensures, sym (to-the-end 0 16 prefix sixteen))
+returns c =
+    let prefix = c .before .before .before .before .before .args .self .prefix in
+    let sixteen : length prefix ≡ 16 = search needs in
+    simp (c .before .before .before .before .flag-of .ensures, c .before .before .before .flag-of2 .ensures, c .before .before .u32-to-be .ensures, c .before .u32-to-be2 .ensures, sym (to-the-end 0 16 prefix sixteen))
 
 pub to-bytes-spec : {M : Type 1} → statement M
 to-bytes-spec =

@@ -39,7 +39,9 @@ enum-known-why c = search needs
 
 returns : tie.Need-returns
 unfolding mtuOf
-returns c = let e = c .before .before .before .before .before in simp (← (e .before .before .exactly .ensures), e .enum-told .given .1, c .u32-from-be .ensures)
+returns c =
+    let e = c .before .before .before .before .before in
+    simp (← (e .before .before .exactly .ensures), e .enum-told .given .1, c .u32-from-be .ensures)
 
 returns-2 : tie.Need-returns-2
 unfolding mtuOf

@@ -1,0 +1,195 @@
+// Runs RFC 1071's worked example, document 01's cases P11 to P13 and the packets of real captures.
+// Standard input holds records (document 01, "The dump and its records"). A line for each has the checksum that is computed
+// for its packet and the verdict; then each of its bytes is inverted in turn, and no such packet may validate.
+ghost use Prim.Native.Nat.{_+_, _≤_};
+ghost use mathlib.Core.Path.{_≡_};
+ghost use lib.ListN.{length};
+use checksum::Computed;
+use checksum::Verdict;
+
+// The longest packet of a record.
+const LONGEST: usize = 2048;
+
+fn say(text: &[u8]) {
+    io::write_all(1, text);
+}
+
+fn say_number(text: &[u8], n: u64) {
+    say(text);
+    io::print_decimal(1, n);
+}
+
+fn say_verdict(packet: &[u8], source: &[u8; 16], destination: &[u8; 16]) {
+    match checksum::verify(packet, source, destination) {
+        Verdict::Valid => say(b" good\n"),
+        Verdict::Invalid => say(b" bad\n"),
+        Verdict::Refused(_) => say(b" refused\n"),
+    }
+}
+
+// 1 where a packet validates, and else 0.
+fn survives(packet: &[u8], source: &[u8; 16], destination: &[u8; 16]) -> u64
+    ensures { λ r. ⌜ r ≤ 1 ⌝ }
+{
+    match checksum::verify(packet, source, destination) {
+        Verdict::Valid => 1,
+        Verdict::Invalid => 0,
+        Verdict::Refused(_) => 0,
+    }
+}
+
+fn address(s: &[u8], at: usize) -> [u8; 16]
+    requires { ⌜ at + 16 ≤ length (now s) ⌝ }
+{
+    [
+        s[at],
+        s[at + 1],
+        s[at + 2],
+        s[at + 3],
+        s[at + 4],
+        s[at + 5],
+        s[at + 6],
+        s[at + 7],
+        s[at + 8],
+        s[at + 9],
+        s[at + 10],
+        s[at + 11],
+        s[at + 12],
+        s[at + 13],
+        s[at + 14],
+        s[at + 15],
+    ]
+}
+
+// The checksum of a packet, worked out from its head and its payload, whatever its field holds.
+fn say_checksum(packet: &[u8], source: &[u8; 16], destination: &[u8; 16]) {
+    if packet.len() < 8 {
+        return;
+    }
+    let head = [
+        packet[0],
+        packet[1],
+        packet[2],
+        packet[3],
+        packet[4],
+        packet[5],
+        packet[6],
+        packet[7],
+    ];
+    match checksum::checksum_of(head, &packet[8..], source, destination) {
+        Computed::Checksum(n) => {
+            say(b" sum ");
+            io::print_hex(1, n as u64, 4);
+        }
+        Computed::Refused(_) => say(b" refused"),
+    }
+}
+
+fn inverted(byte: u8) -> u8 {
+    255 - byte
+}
+
+// How many of the packets that have one byte of `packet` inverted validate. `copy` has room for the packet.
+fn count_survivors(copy: &mut [u8], packet: &[u8], source: &[u8; 16], destination: &[u8; 16]) -> u64
+    requires { ⌜ length (now packet) ≤ length (now copy) ⌝ }
+    ensures { λ r. ⌜ r ≤ length (now (packet .entry)) ⌝ }
+{
+    let n = packet.len();
+    let mut i = 0;
+    while i < n {
+        copy[i] = packet[i];
+        i += 1;
+    }
+    let mut count = 0;
+    let mut k = 0;
+    while k < n {
+        copy[k] = inverted(packet[k]);
+        count += survives(&copy[..n], source, destination);
+        copy[k] = packet[k];
+        k += 1;
+    }
+    count
+}
+
+// A record's line. The answer is how many damaged packets survive.
+fn run_record(head: &[u8], packet: &[u8]) -> u64
+    requires { ⌜ length (now head) ≡ 37 ⌝ }
+    ensures { λ r. ⌜ r ≤ length (now (packet .entry)) ⌝ }
+{
+    let source = address(head, 3);
+    let destination = address(head, 19);
+    say_checksum(packet, &source, &destination);
+    say_verdict(packet, &source, &destination);
+    let mut copy = [0u8; 2048];
+    if LONGEST < packet.len() {
+        return 0;
+    }
+    count_survivors(&mut copy, packet, &source, &destination)
+}
+
+fn length_of(high: u8, low: u8) -> usize {
+    (high as usize) * 256 + (low as usize)
+}
+
+fn say_place(number: u64, at: usize) {
+    say_number(b"record ", number);
+    say_number(b" at ", at as u64);
+}
+
+fn say_totals(records: u64, survivors: u64, left: usize) {
+    say_number(b"records ", records);
+    say_number(b" survivors ", survivors);
+    say_number(b" left ", left as u64);
+    say(b"\n");
+}
+
+fn run_capture(capture: &[u8])
+    requires { ⌜ length (now capture) ≤ 65536 ⌝ }
+{
+    let mut at = 0;
+    let mut records: u64 = 0;
+    let mut survivors: u64 = 0;
+    while capture.len() - at >= 37 {
+        let from = at + 37;
+        let len = length_of(capture[at + 35], capture[at + 36]);
+        if capture.len() - from < len {
+            break;
+        }
+        records += 1;
+        say_place(records, at);
+        survivors += run_record(&capture[at..from], &capture[from..from + len]);
+        at = from + len;
+    }
+    say_totals(records, survivors, capture.len() - at);
+}
+
+fn run_cases() {
+    let example = [0u8, 1, 242, 3, 244, 245, 246, 247];
+    say(b"rfc1071 ");
+    io::print_hex(1, checksum::sum(&example) as u64, 4);
+    say(b"\n");
+    let router = [254u8, 128, 0, 0, 0, 0, 0, 0, 0, 0, 0, 0, 0, 0, 0, 1];
+    let everyone = [255u8, 2, 0, 0, 0, 0, 0, 0, 0, 0, 0, 0, 0, 0, 0, 2];
+    let nowhere = [0u8; 16];
+    let p11 = [133u8, 0, 122, 44, 0, 0, 0, 0, 1, 1, 2, 0, 0, 0, 0, 1];
+    say(b"p11");
+    say_verdict(&p11, &router, &everyone);
+    let p12 = [133u8, 0, 122, 45, 0, 0, 0, 0, 1, 1, 2, 0, 0, 0, 0, 1];
+    say(b"p12");
+    say_verdict(&p12, &router, &everyone);
+    let p13 = [128u8, 0, 0, 0, 127, 189, 0, 0];
+    say(b"p13");
+    say_checksum(&p13, &nowhere, &nowhere);
+    say_verdict(&p13, &nowhere, &nowhere);
+    let other = [128u8, 0, 255, 255, 127, 189, 0, 0];
+    say(b"p13");
+    say_checksum(&other, &nowhere, &nowhere);
+    say_verdict(&other, &nowhere, &nowhere);
+}
+
+fn main() {
+    run_cases();
+    let mut buf = io::large_buffer();
+    let n = io::read_full(0, &mut buf);
+    run_capture(&buf[..n]);
+}

@@ -1,0 +1,11 @@
+-- Every case of the table holds: one statement, which antt computes.
+-- Assumes nothing.
+use mathlib.Core.Path.{refl}
+use Rattle.ndp_option_read.specs.Rule.{exactlyOf, sizedOf}
+use Rattle.ndp_option.specs.Mtu.{mtuOf}
+use Rattle.ndp_option.specs.Cases.{All, table}
+
+pub proved : All table
+unfolding mtuOf exactlyOf sizedOf
+proved =
+    (refl, (refl, (refl, (refl, (refl, (refl, (refl, (refl, (refl, (refl, (refl, (refl, (refl, tt)))))))))))))

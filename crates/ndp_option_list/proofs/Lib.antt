@@ -1,0 +1,4 @@
+pub mod Told
+pub mod Whole
+pub mod Calls
+pub mod Unique

@@ -1,0 +1,44 @@
+-- `has_type` meets its contract: of what the whole walk comes to, the second number, which is 1 or 0.
+-- Assumes nothing.
+use Rattle.ndp_option_list.proofs.Whole.{answered, refused-whole}
+use Rattle.ndp_options.proofs.Steps.{refuses-some}
+use Rattle.ndp_option_list.specs.Whole.{bit, occursOf}
+use Rattle.ndp_option_list.specs.Told.{tallyTold}
+use Rattle.paper.specs.Paper.{gives}
+use Rattle.ndp_walk.specs.Step.{told}
+use lib.ListN.{getD}
+use Prim.Native.Nat.{ℕ}
+use mathlib.Core.List.{List, [], _∷_}
+use mathlib.Core.Path.{_≡_, sym, _∙_, ap}
+use borrow.Author.Needs.{needs}
+use Rattle.ndp_option_list.proofs.has_type.Statement.{statement}
+use Rattle.ndp_option_list.proofs.has_type.Tie as tie
+
+-- the arm of a clean walk
+whole : (c : tie.After-found) → told (gives (bit (c .found .given .0 .1 .0) ∷ [])) 0 ≡ occursOf (c .before .before .before .before .args .wanted .0) (c .before .before .before .before .args .options .now)
+whole c =
+    let all = answered _ _ _ (sym (ap tallyTold (c .found .given .1)) ∙ c .before .before .walk-all .ensures) in
+    rw (all .0) (ap (λ (l : List ℕ). told (gives (getD l 1 0 ∷ [])) 0) (all .1))
+
+walk-all-requires : tie.Need-walk-all-requires
+walk-all-requires c κs = search needs
+
+enum-known-found : tie.Need-enum-known-found
+enum-known-found c = search needs
+
+enum-known-why : tie.Need-enum-known-why
+enum-known-why c = search needs
+
+returns : tie.Need-returns
+returns c = rw (c .if1 .taken) at (whole (c .before .before))
+
+returns-2 : tie.Need-returns-2
+returns-2 c = rw (c .if1 .left) at (whole (c .before .before))
+
+returns-3 : tie.Need-returns-3
+returns-3 c = let why = c .before .why .given .0 .0 in rw (refused-whole _ _ (refuses-some why) (sym (ap tallyTold (c .before .why .given .1)) ∙ c .before .before .before .walk-all .ensures))
+
+pub has-type-spec : {M : Type 1} → statement M
+has-type-spec =
+    tie.close
+    (tie.spec walk-all-requires enum-known-found enum-known-why returns returns-2 returns-3)

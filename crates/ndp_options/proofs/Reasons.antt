@@ -1,0 +1,67 @@
+-- The reasons for which document 01's walk is refused, one for each of its four tests.
+-- Assumes nothing.
+use Prim.Native.Nat.{ℕ, _+_, _≤_, _<_}
+use mathlib.Core.Path.{_≡_, refl, sym, ap, _∙_, subst}
+use mathlib.Core.Logic.{_⊎_, inl, inr}
+use mathlib.Core.Bool.{true, false≢true}
+use mathlib.Core.List.{List, [], _∷_}
+use native.Mathlib.Omega.{arith}
+use lib.Dec.{lit≤}
+use lib.ListN.{length, getD, take, drop, length-drop}
+use lib.Seq.{length-take-le}
+use borrow.Author.Tests.{ne-eqb}
+use Rattle.paper.specs.Paper.{Paper, refuses}
+use Rattle.ndp_option_header.specs.Header.{bytesOf}
+use Rattle.ndp_walk.specs.Judge.{Judgement, Ruling, Fits, Misfits, Bad, ruled, judge}
+use Rattle.ndp_walk.specs.Walk.{RefusedAt}
+use Rattle.ndp_walk.specs.Laws.{missing}
+use Rattle.ndp_walk.proofs.Judging as by
+use Rattle.ndp_walk.proofs.Judging.{Judging, view}
+use Rattle.ndp_walk.proofs.Laws.{refused-there}
+use Rattle.ndp_options.specs.Rule.{rule}
+use Rattle.ndp_options.specs.Walk.{walk}
+use Rattle.ndp_options.proofs.Rule.{misfits}
+
+data Reason (l : List ℕ) : Paper → Type 0 where
+  short : length l ≡ 1 → Reason l (refuses 5 (getD l 0 0 ∷ 2 ∷ length l ∷ []))
+  empty : Reason l (refuses 6 (getD l 0 0 ∷ []))
+  cut : Reason l (refuses 7 (getD l 0 0 ∷ bytesOf (getD l 1 0) ∷ length l ∷ []))
+  misfit : (type asked len : ℕ) → 8 ≤ len → Reason l (refuses 5 (type ∷ asked ∷ len ∷ []))
+
+reason : (l : List ℕ) {why : Paper} → judge rule l ≡ Bad why → Reason l why
+reason l {why} e = go (view rule l) e
+  where
+    is : {p : Paper} → Reason l p → Bad p ≡ Bad why → Reason l why
+    is {p} r q = let same : p ≡ why = cc in subst (Reason l) same r
+
+    own : (o : List ℕ) (r : Ruling) → 8 ≤ length o → rule o ≡ r → ruled (getD l 0 0) (bytesOf (getD l 1 0)) r ≡ Bad why → Reason l why
+    own o (Fits kind) h q e = absurd (let z : _≡_ {A = ℕ} 0 1 = cc in omega arith)
+    own o (Misfits p) h q e = is (subst (Reason l) (misfits o p q) (misfit _ _ (length o) h)) e
+
+    go : {v : Judgement} → Judging rule l v → v ≡ Bad why → Reason l why
+    go (by.over h) e = absurd (let z : _≡_ {A = ℕ} 0 1 = cc in omega arith)
+    go (by.short h) e = is (short h) e
+    go (by.empty h u) e = is empty e
+    go (by.cut h u f) e = is cut e
+    go (by.whole u f) e = own (take (bytesOf (getD l 1 0)) l) _ (omega (arith, length-take-le (bytesOf (getD l 1 0)) l f)) refl e
+
+module _ (s : List ℕ) {at : ℕ} {why : Paper} (e : walk s .ending ≡ RefusedAt at why) where
+  -- refusals 5, 6 and 7; never 8
+  pub five-to-seven : (5 ≤ why .number) × (why .number ≤ 7)
+  five-to-seven = go (reason (drop at s) (refused-there rule s e .0))
+    where
+      go : {p : Paper} → Reason (drop at s) p → (5 ≤ p .number) × (p .number ≤ 7)
+      go (short h) = (lit≤ tt, lit≤ tt)
+      go empty = (lit≤ tt, lit≤ tt)
+      go cut = (lit≤ tt, lit≤ tt)
+      go (misfit type asked len h) = (lit≤ tt, lit≤ tt)
+
+  -- missing bytes are refusal 7 and the refusal 5 of a remainder of one byte, and nothing else
+  pub missing-means : missing why ≡ true → (why .number ≡ 7) ⊎ ((why .number ≡ 5) × (at + 1 ≡ length s))
+  missing-means m = go (reason (drop at s) (refused-there rule s e .0)) m
+    where
+      go : {p : Paper} → Reason (drop at s) p → missing p ≡ true → (p .number ≡ 7) ⊎ ((p .number ≡ 5) × (at + 1 ≡ length s))
+      go (short h) m = inr (refl, omega (arith, length-drop at s))
+      go empty m = absurd (false≢true m)
+      go cut m = inl refl
+      go (misfit type asked len h) m = absurd (false≢true (rw (ne-eqb len 1 (omega arith)) at m))

@@ -1,0 +1,55 @@
+// The walker of document 01: it holds the option bytes it was given and a place in them. Each function takes it apart and leaves the work to a
+// function on the slice and the place; those over the struct are proved by hand.
+ghost use mathlib.Core.Path.{_≡_};
+ghost use lib.ListN.{drop};
+ghost use Rattle.ndp_options.specs.Walk.{stepOf};
+ghost use Rattle.ndp_options.specs.Told.{stepTold};
+use ndp_options::Cursor;
+use ndp_options::Step;
+
+pub struct Walker<'a> {
+    pub options: &'a [u8],
+    pub at: usize,
+}
+
+fn step_at(options: &[u8], at: usize) -> Step
+    ensures { λ r. ⌜ stepTold r ≡ stepOf (now (options .entry)) at ⌝ }
+{
+    let here = Cursor { at };
+    here.step(options)
+}
+
+fn rest_at<'a>(options: &'a [u8], at: usize) -> &'a [u8]
+    ensures { λ r. ⌜ now r ≡ drop at (now (options .entry)) ⌝ }
+{
+    let from = Cursor { at };
+    from.rest(options)
+}
+
+// A walker at the first byte.
+pub fn from_slice<'a>(options: &'a [u8]) -> Walker<'a>
+    ensures { λ r. ⌜ (r .options ≡ options .entry) × (r .at ≡ 0) ⌝ }
+{
+    Walker { options, at: 0 }
+}
+
+// What stands at the walker's place, with the cursor of the next.
+pub fn step<'a>(w: Walker<'a>) -> Step
+    ensures { λ r. ⌜ stepTold r ≡ stepOf (now (w .entry .options)) (w .entry .at) ⌝ }
+{
+    step_at(w.options, w.at)
+}
+
+// The bytes from the walker's place on: none where it is beyond them.
+pub fn rest<'a>(w: Walker<'a>) -> &'a [u8]
+    ensures { λ r. ⌜ now r ≡ drop (w .entry .at) (now (w .entry .options)) ⌝ }
+{
+    rest_at(w.options, w.at)
+}
+
+// The first step of a walker over the bytes: its caller sees no walker, and needs no proof by hand.
+pub fn first_step(options: &[u8]) -> Step
+    ensures { λ r. ⌜ stepTold r ≡ stepOf (now (options .entry)) 0 ⌝ }
+{
+    step(from_slice(options))
+}
