@@ -114,26 +114,6 @@ fn judge(rest: &[u8]) -> Judged
     }
 }
 
-impl NdpOption {
-    // The option's own bytes: as many of them as the slice has.
-    pub fn bytes(self, options: &[u8]) -> &[u8]
-        ensures { λ r. ⌜ now r ≡ take (self .len) (drop (self .at) (now (options .entry))) ⌝ }
-    {
-        let at = self.at;
-        let len = self.len;
-        let n = options.len();
-        if n < at {
-            return &options[..0];
-        }
-        if n - at < len {
-            &options[at..]
-        } else {
-            let end = at + len;
-            &options[at..end]
-        }
-    }
-}
-
 impl Cursor {
     // The cursor of a walk that begins.
     pub fn new() -> Self
@@ -146,9 +126,9 @@ impl Cursor {
     pub fn rest(self, options: &[u8]) -> &[u8]
         ensures { λ r. ⌜ now r ≡ drop (self .at) (now (options .entry)) ⌝ }
     {
-        let at = self.at;
-        if at <= options.len() {
-            &options[at..]
+        let from = self.at;
+        if from <= options.len() {
+            &options[from..]
         } else {
             &options[..0]
         }
@@ -165,7 +145,10 @@ impl Cursor {
         }
         match judge(&options[at..]) {
             Judged::Over => Step::End,
-            Judged::Bad(why) => Step::Refused(why, Cursor { at: n + 1 }),
+            Judged::Bad(why) => {
+                let beyond = n + 1;
+                Step::Refused(why, Cursor { at: beyond })
+            }
             Judged::Good(kind, id, len) => {
                 let option = NdpOption {
                     kind,
@@ -173,8 +156,25 @@ impl Cursor {
                     at,
                     len,
                 };
-                Step::Handed(option, Cursor { at: at + len })
+                let next = at + len;
+                Step::Handed(option, Cursor { at: next })
             }
+        }
+    }
+}
+
+impl NdpOption {
+    // The option's own bytes, as a part of the list that it was handed out of: as many of them as the list has.
+    pub fn bytes(self, options: &[u8]) -> &[u8]
+        ensures { λ r. ⌜ now r ≡ take (self .len) (drop (self .at) (now (options .entry))) ⌝ }
+    {
+        let len = self.len;
+        let here = Cursor { at: self.at };
+        let rest = here.rest(options);
+        if len <= rest.len() {
+            &rest[..len]
+        } else {
+            rest
         }
     }
 }

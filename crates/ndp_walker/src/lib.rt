@@ -15,15 +15,15 @@ pub struct Walker<'a> {
 fn step_at(options: &[u8], at: usize) -> Step
     ensures { λ r. ⌜ stepTold r ≡ stepOf (now (options .entry)) at ⌝ }
 {
-    let c = Cursor { at };
-    c.step(options)
+    let here = Cursor { at };
+    here.step(options)
 }
 
 fn rest_at<'a>(options: &'a [u8], at: usize) -> &'a [u8]
     ensures { λ r. ⌜ now r ≡ drop at (now (options .entry)) ⌝ }
 {
-    let c = Cursor { at };
-    c.rest(options)
+    let from = Cursor { at };
+    from.rest(options)
 }
 
 // A walker at the first byte.

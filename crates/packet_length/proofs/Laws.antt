@@ -49,3 +49,14 @@ refused n r q answer = by (ltb n 8) (ltb limit n) q
     by false false q =
         let z : true ≡ false = sym (ap (λ (p : Paper). eqb (p .number) 0) q) ∙ refusal-numbered r in
         cc
+
+-- an answer with another number than 1 and 2 was given behind the test
+module _ (n : ℕ) (answer q : Paper) (not-1 : q .number ≡ 1 → ⊥) (not-2 : q .number ≡ 2 → ⊥) where
+  pub behind : sized n answer ≡ q → Between n × (answer ≡ q)
+  unfolding sized
+  behind = by (ltb n 8) (ltb limit n) refl refl
+    where
+      by : (a b : Bool) → ltb n 8 ≡ a → ltb limit n ≡ b → cond a (refuses 1 (8 ∷ n ∷ [])) (cond b (refuses 2 (limit ∷ n ∷ [])) answer) ≡ q → Between n × (answer ≡ q)
+      by true b e f g = absurd (not-1 (sym (ap (λ (p : Paper). p .number) g)))
+      by false true e f g = absurd (not-2 (sym (ap (λ (p : Paper). p .number) g)))
+      by false false e f g = (record { low = ltb-false n 8 e; high = ltb-false limit n f }, g)

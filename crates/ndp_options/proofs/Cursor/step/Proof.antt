@@ -38,14 +38,14 @@ enum-told c = search needs
 enum-known-why : tie.Need-enum-known-why
 enum-known-why c = search needs
 
-add-t17 : tie.Need-add-t17
-add-t17 c = search needs
+add-beyond : tie.Need-add-beyond
+add-beyond c = search needs
 
 enum-known-kind : tie.Need-enum-known-kind
 enum-known-kind c = search needs
 
-add-t19 : tie.Need-add-t19
-add-t19 c = omega (arith, fitting rule _ (sym (found (c .before .before .before)) ∙ ap judgedTold (c .before .kind .given .1)), length-drop (c .before .before .before .before .before .before .before .args .self .at) (c .before .before .before .before .before .before .before .args .options .now))
+add-next : tie.Need-add-next
+add-next c = omega (arith, fitting rule _ (sym (found (c .before .before .before)) ∙ ap judgedTold (c .before .kind .given .1)), length-drop (c .before .before .before .before .before .before .before .args .self .at) (c .before .before .before .before .before .before .before .args .options .now))
 
 returns-2 : tie.Need-returns-2
 returns-2 c = sym (within _ _ _ (omega arith) (sym (found (c .before .before)) ∙ ap judgedTold (c .enum-told .given .1)))
@@ -67,9 +67,9 @@ step-spec =
     judge-requires
     enum-told
     enum-known-why
-    add-t17
+    add-beyond
     enum-known-kind
-    add-t19
+    add-next
     returns-2
     returns-3
     returns-4)

@@ -1,0 +1,33 @@
+-- RFC 4291, section 2.4, and document 01, "The receive check": kinds of addresses by the bytes that they begin with.
+-- Assumes nothing.
+use Prim.Native.Nat.{ℕ}
+use mathlib.Core.Bool.{Bool, true, false, _&&_}
+use mathlib.Core.List.{List, [], _∷_, _++_}
+use lib.Dec.{eqb}
+use lib.ListN.{length, replicate}
+
+-- whether bytes begin with a prefix
+unfoldable pub begins : List ℕ → List ℕ → Bool
+begins [] s = true
+begins (p ∷ ps) [] = false
+begins (p ∷ ps) (x ∷ s) = eqb x p && begins ps s
+
+-- whether two are the same bytes
+abbrev pub same : List ℕ → List ℕ → Bool
+same a b = eqb (length a) (length b) && begins a b
+
+-- RFC 4291, section 2.5.2: all 0
+abbrev pub unspecified : List ℕ → Bool
+unspecified a = begins (replicate 16 0) a
+
+-- section 2.7: ff00::/8
+abbrev pub multicast : List ℕ → Bool
+multicast a = begins (0xff ∷ []) a
+
+-- document 01: begins fe 80 (section 2.4: fe80::/10)
+abbrev pub linkLocal : List ℕ → Bool
+linkLocal a = begins (0xfe ∷ 0x80 ∷ []) a
+
+-- section 2.7.1: ff02:0:0:0:0:1:ff00::/104, thirteen bytes
+abbrev pub solicitedNode : List ℕ → Bool
+solicitedNode a = begins (0xff ∷ 0x02 ∷ (replicate 9 0 ++ 0x01 ∷ 0xff ∷ [])) a

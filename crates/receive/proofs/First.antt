@@ -1,0 +1,65 @@
+-- What the first reason of any list says of the list.
+-- Assumes nothing.
+use Prim.Native.Nat.{ℕ, _<_}
+use mathlib.Core.Path.{_≡_, refl, sym, _∙_}
+use mathlib.Core.Bool.{Bool, true, false, false≢true, cond, _||_}
+use mathlib.Core.List.{List, [], _∷_, map}
+use native.Mathlib.Omega.{arith}
+use lib.Dec.{eqb}
+use borrow.Author.Tests.{eq-eqb}
+use Rattle.receive.specs.Reasons.{Reason, firstOf, None, First, here, later}
+use Rattle.receive.specs.Given.{among}
+
+-- no number is 0, which stands for no reason
+abbrev pub Numbered : List Reason → Type 0
+Numbered [] = Unit {0}
+Numbered (r ∷ rs) = (0 < r .number) × Numbered rs
+
+pub none-first : (rs : List Reason) → None rs → firstOf rs ≡ 0
+unfolding firstOf
+none-first [] h = refl
+none-first (r ∷ rs) h = rw (h .0) (none-first rs (h .1))
+
+pub first-none : (rs : List Reason) → Numbered rs → firstOf rs ≡ 0 → None rs
+unfolding firstOf
+first-none [] p e = tt
+first-none (r ∷ rs) p e = by (r .holds) refl (first-none rs (p .1)) e
+  where
+    by : (b : Bool) → r .holds ≡ b → (firstOf rs ≡ 0 → None rs) → cond b (r .number) (firstOf rs) ≡ 0 → None (r ∷ rs)
+    by true q on e = absurd (omega (arith, p .0))
+    by false q on e = (q, on e)
+
+pub named : {n : ℕ} {rs : List Reason} → First n rs → firstOf rs ≡ n
+unfolding firstOf
+named (here e h) = rw h e
+named (later h f) = rw h (named f)
+
+pub names : (n : ℕ) (rs : List Reason) → 0 < n → firstOf rs ≡ n → First n rs
+unfolding firstOf
+names n [] p e = absurd (omega arith)
+names n (r ∷ rs) p e = by (r .holds) refl (names n rs p) e
+  where
+    by : (b : Bool) → r .holds ≡ b → (firstOf rs ≡ n → First n rs) → cond b (r .number) (firstOf rs) ≡ n → First n (r ∷ rs)
+    by true q on e = here e q
+    by false q on e = later q (on e)
+
+pub first-numbered : {n : ℕ} {rs : List Reason} → Numbered rs → First n rs → 0 < n
+first-numbered p (here e h) = omega (arith, p .0)
+first-numbered p (later h f) = first-numbered (p .1) f
+
+pub first-among : {n : ℕ} {rs : List Reason} → First n rs → among n (map (λ (r : Reason). r .number) rs) ≡ true
+first-among {n} (here {r} e h) = rw (eq-eqb n (r .number) (sym e))
+first-among {n} (later {r} {rs} h f) = either (eqb n (r .number)) (first-among f)
+  where
+    either : {b : Bool} (a : Bool) → b ≡ true → a || b ≡ true
+    either true e = refl
+    either false e = e
+
+-- a reason that does not hold wherever it stands is not the first
+abbrev pub Spared : ℕ → List Reason → Type 0
+Spared n [] = Unit {0}
+Spared n (r ∷ rs) = (r .number ≡ n → r .holds ≡ false) × Spared n rs
+
+pub not-first : {n : ℕ} {rs : List Reason} → Spared n rs → First n rs → ⊥
+not-first s (here e h) = false≢true (sym (s .0 e) ∙ h)
+not-first s (later h f) = not-first (s .1) f

@@ -1,0 +1,92 @@
+-- The receive check answers the night of the failure: whoever acts on a packet that it accepted acts on a whole option list, never on half of one.
+-- Reasons 3, 4 and 5 do not hold of such a packet; a walk that is clean is clean from every place that it comes to.
+-- Assumes nothing.
+use Prim.Native.Nat.{ℕ, _+_, _≤_}
+use mathlib.Core.Path.{_≡_, refl, sym, ap, _∙_}
+use mathlib.Core.Bool.{Bool, true, false, false≢true}
+use mathlib.Core.List.{List, _∷_}
+use native.Mathlib.Omega.{arith}
+use lib.ListN.{length, getD, drop}
+use borrow.Author.Tests.{not-false, eqb-true, ltb-false}
+use Rattle.wire.proofs.Cases.{cases}
+use Rattle.message_table.specs.Table.{known}
+use Rattle.packet_length.proofs.Laws.{sized-fits}
+use Rattle.icmpv6_type.proofs.Laws.{as-known}
+use Rattle.icmpv6.specs.Head.{decodeOf, checksumAt, fieldsAt}
+use Rattle.ndp_walk.specs.Walk.{Ending, Clean, RefusedAt, Walk}
+use Rattle.ndp_options.specs.Walk.{walk, walkFrom, stepOf}
+use Rattle.ndp_options.specs.Told.{stepTold}
+use Rattle.ndp_options.specs.declared.Step.{Step}
+use Rattle.ndp_options.specs.declared.Step.the-variants.{Handed, End, Refused, Stopped}
+use Rattle.ndp_options.proofs.Steps.{handed-on, refused-at, not-stopped}
+use Rattle.ndp_options.proofs.Laws.{all-bytes}
+use Rattle.receive.specs.declared.Received.{Received}
+use Rattle.receive.specs.declared.Received.the-variants.{Accepted}
+use Rattle.receive.specs.Reasons.{None}
+use Rattle.receive.specs.Receive.{isNdp, fixedLen, isClean, reasons, receiveOf}
+use Rattle.receive.specs.Told.{told}
+use Rattle.receive.specs.Whole.{Reached, start, on, isWhole, Whole}
+use Rattle.receive.proofs.Theorems.{other, accepted-exactly}
+
+is-clean : (e : Ending) → isClean e ≡ true → e ≡ Clean
+is-clean Clean h = refl
+is-clean (RefusedAt at why) h = absurd (false≢true h)
+
+-- the table has each of the five types with code 0
+known-0 : (t : ℕ) → isNdp t ≡ true → known t 0 ≡ true
+unfolding known
+known-0 t h =
+    cases t 133 (λ e. rw e)
+    (λ n133.
+    cases t 134 (λ e. rw e)
+    (λ n134.
+    cases t 135 (λ e. rw e)
+    (λ n135.
+    cases t 136 (λ e. rw e)
+    (λ n136.
+    cases t 137 (λ e. rw e)
+    (λ n137.
+    absurd (false≢true (sym (other t n133 n134 n135 n136 n137) ∙ h)))))))
+
+module _ (s : List ℕ) where
+  -- the walk from a place that was reached ends as the whole walk does
+  ends-alike : {at : ℕ} → Reached s at → (at ≤ length s) × (walkFrom at (drop at s) .ending ≡ walk s .ending)
+  ends-alike start = (omega arith, refl)
+  ends-alike (on {at} r e arm) =
+      let h = ends-alike r in
+      let o = handed-on s at (h .0) e arm in
+      (o .inside, ap (λ (w : Walk). w .ending) (sym (o .walk)) ∙ h .1)
+
+  whole-steps : walk s .ending ≡ Clean → (at : ℕ) → Reached s at → (x : Step) → stepTold x ≡ stepOf s at → isWhole x ≡ true
+  whole-steps clean at r x e = by x refl
+    where
+      by : (y : Step) → x ≡ y → isWhole y ≡ true
+      by (Handed o next) arm = refl
+      by End arm = refl
+      by (Refused why next) arm =
+          let h = ends-alike r in
+          let z = sym (ap (λ (w : Walk). w .ending) (refused-at s at (h .0) e arm .1)) ∙ h .1 ∙ clean in
+          absurd (false≢true (ap isClean z))
+      by Stopped arm = absurd (not-stopped s at (ends-alike r .0) e arm)
+
+-- An accepted packet of types 133 to 137 is a structured message, and its option list is whole.
+pub accepted-whole : (hops : ℕ) (source destination packet : List ℕ) (r : Received)
+    → told r ≡ receiveOf hops source destination packet
+    → r ≡ Accepted
+    → isNdp (getD packet 0 0) ≡ true
+    → Whole packet
+unfolding decodeOf reasons
+accepted-whole hops source destination packet r e a n =
+    let h = accepted-exactly hops source destination packet .0 (sym e ∙ ap told a) in
+    let rs = rw n at (h .1) in
+    let code = eqb-true (getD packet 1 0) 0 (not-false _ (rs .1 .1 .0)) in
+    let clean = is-clean _ (not-false _ (rs .1 .1 .1 .1 .0)) in
+    record {
+      kind =
+          sized-fits (length packet) (h .0 .low) (h .0 .high) _
+          ∙ rw (code, as-known (getD packet 0 0) 0 (fieldsAt packet) (known-0 (getD packet 0 0) n));
+      fixed = ltb-false (length packet) (8 + fixedLen (getD packet 0 0)) (rs .1 .1 .1 .0);
+      clean = clean;
+      all = all-bytes _ clean;
+      steps = whole-steps _ clean;
+    }
