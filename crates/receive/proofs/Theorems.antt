@@ -4,11 +4,10 @@ use Prim.Native.Nat.{ℕ, _+_, _≤_}
 use mathlib.Core.Path.{_≡_, refl, _∙_}
 use mathlib.Core.Logic.{_↔_}
 use mathlib.Core.Bool.{true}
-use mathlib.Core.List.{List}
+use mathlib.Core.List.{List, [], _∷_}
 use native.Mathlib.Omega.{arith}
 use lib.ListN.{length, getD}
 use borrow.Author.Tests.{eq-eqb, ne-eqb, le-ltb}
-use Rattle.wire.proofs.Cases.{cases}
 use Rattle.packet_length.proofs.Laws.{Between, sized-fits, behind}
 use Rattle.checksum.specs.Icmpv6.{verdictOf}
 use Rattle.checksum.specs.Fields.{isValid}
@@ -19,7 +18,7 @@ use Rattle.receive.specs.Rules.{ownOf}
 use Rattle.receive.specs.Receive.{isNdp, fixedLen, optionsOf, reasons, accepted, notReceived, answerBy, receiveOf}
 use Rattle.receive.specs.Given.{givenFor, among}
 use Rattle.receive.proofs.Lengths.{of-133}
-use Rattle.receive.proofs.First.{none-first, first-none, named, names, first-numbered, first-among, not-first}
+use Rattle.receive.proofs.First.{none-first, first-none, named, names, first-numbered, first-among, without}
 use Rattle.receive.proofs.Answers.{answer-0, answer-n, numbered}
 use Rattle.receive.proofs.Types.{Kind, solicits-routers, advertises-router, solicits-neighbor, advertises-neighbor, redirects, other, view}
 
@@ -61,39 +60,15 @@ module _ (hops : ℕ) (source destination packet : List ℕ) where
       sized-fits (length packet) (b .low) (b .high) _
       ∙ simp (n, eq-eqb hops 255 h, v, eq-eqb (getD packet 1 0) 0 c, le-ltb (length packet) (8 + fixedLen (getD packet 0 0)) l, w)
 
-  -- ---- the reasons of a type
-
-  -- eight bytes are enough for a Router Solicitation
-  long-enough : getD packet 0 0 ≡ 133 → Between (length packet) → First 4 (reasons hops source destination packet) → ⊥
-  unfolding reasons ownOf
-  long-enough e b f =
-      not-first (
-        λ z. absurd (omega arith),
-        (
-          λ z. absurd (omega arith),
-          (
-            λ z. absurd (omega arith),
-            (
-              λ z. le-ltb (length packet) 8 (b .low),
-              (
-                λ z. absurd (omega arith),
-                (λ z. absurd (omega arith), tt),
-              ),
-            ),
-          ),
-        ),
-      )
-      (rw (e, of-133) at f)
-
-  -- No reason is given but those of the packet's type.
+  -- No reason is given but those of the packet's type. Of a Router Solicitation (4) falls out: past refusal 1 it has its eight bytes.
   pub given-only : (n : ℕ) → receiveOf hops source destination packet ≡ notReceived n → among n (givenFor (getD packet 0 0)) ≡ true
   unfolding reasons ownOf
   given-only n h = by (view (getD packet 0 0)) refl (refused-exactly n .0 h)
     where
       by : {t : ℕ} → Kind t → getD packet 0 0 ≡ t → Between (length packet) × First n (reasons hops source destination packet) → among n (givenFor t) ≡ true
       by solicits-routers e f =
-          cases n 4 (λ z. absurd (long-enough e (f .0) (rw z at (f .1))))
-          (λ z. simp (ne-eqb n 4 z) at (first-among (rw e at (f .1))))
+          let eight = le-ltb (length packet) 8 (f .0 .low) in
+          first-among (without (_ ∷ _ ∷ _ ∷ []) _ _ eight (rw (e, of-133) at (f .1)))
       by advertises-router e f = first-among (rw e at (f .1))
       by solicits-neighbor e f = first-among (rw e at (f .1))
       by advertises-neighbor e f = first-among (rw e at (f .1))
