@@ -12,7 +12,8 @@ use Rattle.packet_length.proofs.Laws.{Between, sized-fits, behind}
 use Rattle.checksum.specs.Icmpv6.{verdictOf}
 use Rattle.checksum.specs.Fields.{isValid}
 use Rattle.ndp_walk.specs.Walk.{Clean}
-use Rattle.ndp_options.specs.Walk.{walk, occurs}
+use Rattle.ndp_options.specs.Walk.{walk}
+use Rattle.ndp_option_list.specs.Whole.{occurs}
 use Rattle.receive.specs.Reasons.{firstOf, None, First}
 use Rattle.receive.specs.Rules.{ownOf}
 use Rattle.receive.specs.Receive.{isNdp, fixedLen, optionsOf, reasons, accepted, notReceived, answerBy, receiveOf}
