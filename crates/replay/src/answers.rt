@@ -8,7 +8,7 @@ use crate::types;
 use crate::walk;
 
 // Writes the name of a call.
-pub fn name(call: u8) {
+pub(crate) fn name(call: u8) {
     match call {
         1 => write(b"Icmpv6Slice"),
         2 => write(b"Icmpv6Slice::icmp_type"),
@@ -36,7 +36,7 @@ pub fn name(call: u8) {
     }
 }
 
-pub fn write(text: &[u8]) {
+pub(crate) fn write(text: &[u8]) {
     io::write_all(libc::STDOUT_FILENO, text);
 }
 
@@ -67,7 +67,7 @@ fn told_by(call: u8, input: &[u8]) -> Told {
 }
 
 // The place in a vector's answer up to which the library's own is met.
-pub fn met(call: u8, input: &[u8], answer: &[u8]) -> usize {
+pub(crate) fn met(call: u8, input: &[u8], answer: &[u8]) -> usize {
     match call {
         13 => walk::met(input, answer, false),
         14 => walk::met(input, answer, true),

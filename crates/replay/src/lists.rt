@@ -6,7 +6,7 @@ use ndp_option_list::Counted;
 use ndp_option_list::Occurs;
 use refusal::NdpOptionType;
 
-pub fn counted(input: &[u8]) -> Told {
+pub(crate) fn counted(input: &[u8]) -> Told {
     match ndp_option_list::count(input) {
         Counted::All(n) => tell(2, 0, n as u64, 0, 0, 0, 0),
         Counted::Refused(why, at) => numbers::refused_at(why, at),
@@ -14,7 +14,7 @@ pub fn counted(input: &[u8]) -> Told {
 }
 
 // The type that is looked for, then the options.
-pub fn has_type(input: &[u8]) -> Told {
+pub(crate) fn has_type(input: &[u8]) -> Told {
     if input.len() == 0 {
         return numbers::nothing();
     }

@@ -100,7 +100,7 @@ fn read_told(read: PayloadRead, payload: &[u8]) -> Told {
 }
 
 // By value: a type value, then the payload.
-pub fn of_type(input: &[u8], to_absent: bool) -> Told {
+pub(crate) fn of_type(input: &[u8], to_absent: bool) -> Told {
     if input.len() < 7 {
         return numbers::nothing();
     }
@@ -118,7 +118,7 @@ pub fn of_type(input: &[u8], to_absent: bool) -> Told {
 }
 
 // By bytes.
-pub fn of_packet(input: &[u8], to_absent: bool) -> Told {
+pub(crate) fn of_packet(input: &[u8], to_absent: bool) -> Told {
     let payload = icmpv6_slice::payload(input);
     let read = Icmpv6PayloadSlice::from_packet(input);
     if to_absent {
@@ -131,12 +131,12 @@ pub fn of_packet(input: &[u8], to_absent: bool) -> Told {
 }
 
 // The fixed part of one kind.
-pub fn of_advertisement(input: &[u8]) -> Told {
+pub(crate) fn of_advertisement(input: &[u8]) -> Told {
     let t = Icmpv6Type::RouterAdvertisement(types::router_of(0, 0, 0, 0, 0));
     read_told(Icmpv6PayloadSlice::from_slice(t, input), input)
 }
 
-pub fn of_redirect(input: &[u8]) -> Told {
+pub(crate) fn of_redirect(input: &[u8]) -> Told {
     read_told(
         Icmpv6PayloadSlice::from_slice(Icmpv6Type::Redirect, input),
         input,

@@ -128,7 +128,7 @@ fn next(input: &[u8], answer: &[u8], w: Walking, to_absent: bool) -> Walking {
 }
 
 // The place in the answer up to which the walk was met.
-pub fn met(input: &[u8], answer: &[u8], to_absent: bool) -> usize {
+pub(crate) fn met(input: &[u8], answer: &[u8], to_absent: bool) -> usize {
     let mut w = Walking {
         place: 0,
         met: 0,
