@@ -1,3 +1,5 @@
 pub mod Laws
 pub mod Sealed
+pub mod Bytes
+pub mod Sent
 pub mod Unique
