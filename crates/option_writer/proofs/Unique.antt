@@ -1,4 +1,4 @@
--- Each public call's promise leaves one answer and one content of the buffer.
+-- Each encoder's promise leaves one answer and one content of the buffer.
 -- Assumes nothing.
 use Prim.Native.Nat.{ℕ}
 use mathlib.Core.Path.{sym, ap, _∙_}

@@ -1,5 +1,11 @@
--- `write_link_layer_address` meets its contract: the bytes are put whole or not at all.
+-- `write_link_layer_address` meets its contract: what is put are the eight bytes of the option.
 -- Assumes nothing.
+use Prim.Native.Nat.{ℕ}
+use mathlib.Core.List.{List, [], _∷_}
+use mathlib.Core.Path.{_≡_, refl, ap}
+use Rattle.option_writer.specs.Options.{sixOf, linkLayerBytes}
+use Rattle.option_writer.proofs.Laws.{put-as}
+use denote.Ref.{now}
 use borrow.Author.Needs.{needs}
 use Rattle.option_writer.proofs.write_link_layer_address.Statement.{statement}
 use Rattle.option_writer.proofs.write_link_layer_address.Tie as tie
@@ -35,7 +41,10 @@ same-length : tie.Need-same-length
 same-length c = search needs
 
 returns : tie.Need-returns
-returns c = rw (c .before .before .before .before .before .option-type .ensures) at (c .before .before .put .ensures)
+returns c = let p = c .before .before in
+    let t = p .before .before .before in
+    let a = t .before .before .args in
+    put-as (now (a .out)) _ (linkLayerBytes (a .whose) (a .t2)) 8 (ap (λ (k : ℕ). k ∷ 1 ∷ sixOf (a .t2)) (t .option-type .ensures)) refl (p .put .ensures .0) (p .put .ensures .1)
 
 pub write-link-layer-address-spec : {M : Type 1} → statement M
 write-link-layer-address-spec =

@@ -1,5 +1,12 @@
--- `write_mtu` meets its contract: the bytes are put whole or not at all.
+-- `write_mtu` meets its contract: what is put are the eight bytes of the option.
 -- Assumes nothing.
+use Prim.Native.Nat.{ℕ}
+use lib.ListN.{length, getD}
+use mathlib.Core.List.{List, [], _∷_}
+use mathlib.Core.Path.{_≡_, refl, ap}
+use Rattle.option_writer.specs.Options.{mtuBytes}
+use Rattle.option_writer.proofs.Laws.{put-as}
+use denote.Ref.{now}
 use borrow.Author.Needs.{needs}
 use Rattle.option_writer.proofs.write_mtu.Statement.{statement}
 use Rattle.option_writer.proofs.write_mtu.Tie as tie
@@ -29,7 +36,9 @@ same-length : tie.Need-same-length
 same-length c = search needs
 
 returns : tie.Need-returns
-returns c = rw (c .before .before .before .before .before .u32-to-be .ensures) at (c .before .before .put .ensures)
+returns c = let p = c .before .before in
+    let m = p .before .before .before in
+    put-as (now (m .before .before .args .out)) _ (mtuBytes (m .before .before .args .mtu)) 8 (ap (λ (l : List ℕ). 5 ∷ 1 ∷ 0 ∷ 0 ∷ getD l 0 0 ∷ getD l 1 0 ∷ getD l 2 0 ∷ getD l 3 0 ∷ []) (m .u32-to-be .ensures)) refl (p .put .ensures .0) (p .put .ensures .1)
 
 pub write-mtu-spec : {M : Type 1} → statement M
 write-mtu-spec =

@@ -1,8 +1,9 @@
--- `write_prefix_information` meets its contract: the bytes are put whole or not at all.
+-- `write_prefix_information` meets its contract: what is put are the 32 bytes of the option.
 -- Assumes nothing.
-use Rattle.prefix_information.specs.Prefix.{bytesOf}
 use lib.ListN.{length}
-use mathlib.Core.Path.{_≡_, sym, ap, _∙_}
+use mathlib.Core.Path.{_≡_, refl}
+use Rattle.option_writer.proofs.Laws.{put-as}
+use denote.Ref.{now}
 use borrow.Author.Needs.{needs}
 use Rattle.option_writer.proofs.write_prefix_information.Statement.{statement}
 use Rattle.option_writer.proofs.write_prefix_information.Tie as tie
@@ -20,7 +21,10 @@ same-length : tie.Need-same-length
 same-length c = search needs
 
 returns : tie.Need-returns
-returns c = let k = c .before .before .before .before .before in let e = k .to-bytes .ensures in let n : length (k .to-bytes .result) ≡ 32 = search needs in let m : length (bytesOf (k .before .before .args .information)) ≡ 32 = sym (ap length e) ∙ n in rw (← m) (rw e at (c .before .before .put .ensures))
+returns c = let p = c .before .before in
+    let b = p .before .before .before .to-bytes in
+    let n : length (b .result) ≡ 32 = search needs in
+    put-as (now (p .before .before .before .before .before .args .out)) (b .result) _ 32 (b .ensures) n (p .put .ensures .0) (p .put .ensures .1)
 
 pub write-prefix-information-spec : {M : Type 1} → statement M
 write-prefix-information-spec =
