@@ -85,7 +85,7 @@ cleared-bits k c b (suc (suc (suc (suc i)))) j h = absurd (omega arith)
 -- what a value is written as is read back as that value, unless it is an Unknown that names a known pair
 pub write-read : (t : Icmpv6Type) → Fits t → misnamed t ≡ false → typeOf (typeNumber t) (codeNumber t) (fieldBytes t) ≡ typeTold t
 unfolding known
-write-read (Unknown k c w) h u = rw (as-unknown k c _ u, join32 w h)
+write-read (Unknown k c w) h u = rw (as-unknown k c _ u, join32 w (h .2))
 write-read (DestinationUnreachable c) h u = as-known 1 (destNumber c) nothing (known-1 (dest-below c))
 write-read (PacketTooBig mtu) h u = as-known 2 0 _ refl ∙ ap (λ (n : ℕ). 2 ∷ n ∷ []) (join32 mtu h)
 write-read (TimeExceeded c) h u = as-known 3 (timeNumber c) nothing (known-3 (time-below c))
@@ -93,7 +93,7 @@ write-read (ParameterProblem d) h u = as-known 4 (problemNumber (d .code)) _ (kn
 write-read (EchoRequest d) h u = as-known 128 0 _ refl ∙ ap (λ (l : List ℕ). 128 ∷ l) (echo-written d (h .0) (h .1))
 write-read (EchoReply d) h u = as-known 129 0 _ refl ∙ ap (λ (l : List ℕ). 129 ∷ l) (echo-written d (h .0) (h .1))
 write-read RouterSolicitation h u = as-known 133 0 _ refl
-write-read (RouterAdvertisement d) h u = as-known 134 0 _ refl ∙ ap (λ (l : List ℕ). 134 ∷ l) (router-written d h)
+write-read (RouterAdvertisement d) h u = as-known 134 0 _ refl ∙ ap (λ (l : List ℕ). 134 ∷ l) (router-written d (h .1))
 write-read NeighborSolicitation h u = as-known 135 0 _ refl
 write-read (NeighborAdvertisement d) h u = as-known 136 0 _ refl ∙ ap (λ (l : List ℕ). 136 ∷ l) (neighbor-written d)
 write-read Redirect h u = as-known 137 0 _ refl

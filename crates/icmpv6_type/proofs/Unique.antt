@@ -6,6 +6,7 @@ use Rattle.paper.proofs.Facts.{one}
 use Rattle.icmpv6_type.proofs.Paper.{type-lossless}
 use Rattle.icmpv6_type.proofs.Icmpv6Type.from_parts as from-parts
 use Rattle.icmpv6_type.proofs.Icmpv6Type.type_u8 as type-u8
+use Rattle.icmpv6_type.proofs.Icmpv6Type.kind_u8 as kind-u8
 use Rattle.icmpv6_type.proofs.Icmpv6Type.code_u8 as code-u8
 use Rattle.icmpv6_type.proofs.Icmpv6Type.bytes5to8 as bytes5to8
 
@@ -14,6 +15,9 @@ from-parts-unique M 𝓤 H A m f κs a g x y v w = one 𝓤 (λ p q. (type-lossl
 
 pub type-u8-unique : Only type-u8.ended (λ M 𝓤. type-u8.clauses 𝓤)
 type-u8-unique M 𝓤 H A m f κs a g x y v w = one 𝓤 (λ p q. (p ∙ sym q, refl))
+
+pub kind-u8-unique : Only kind-u8.ended (λ M 𝓤. kind-u8.clauses 𝓤)
+kind-u8-unique M 𝓤 H A m f κs a g x y v w = one 𝓤 (λ p q. (p ∙ sym q, refl))
 
 pub code-u8-unique : Only code-u8.ended (λ M 𝓤. code-u8.clauses 𝓤)
 code-u8-unique M 𝓤 H A m f κs a g x y v w = one 𝓤 (λ p q. (p ∙ sym q, refl))

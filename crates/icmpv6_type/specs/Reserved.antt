@@ -33,7 +33,7 @@ cleared k c b =
 
 -- the numbers of a value fit their fields, as those of every value in memory do
 abbrev pub Fits : Icmpv6Type → Type 0
-Fits (Unknown k c w) = w < 4294967296
+Fits (Unknown k c w) = (k < 256) × (c < 256) × (w < 4294967296)
 Fits (DestinationUnreachable c) = Unit
 Fits (PacketTooBig mtu) = mtu < 4294967296
 Fits (TimeExceeded c) = Unit
@@ -41,7 +41,7 @@ Fits (ParameterProblem h) = h .pointer < 4294967296
 Fits (EchoRequest h) = (h .id < 65536) × (h .seq < 65536)
 Fits (EchoReply h) = (h .id < 65536) × (h .seq < 65536)
 Fits RouterSolicitation = Unit
-Fits (RouterAdvertisement h) = h .«router_lifetime» < 65536
+Fits (RouterAdvertisement h) = (h .«cur_hop_limit» < 256) × (h .«router_lifetime» < 65536)
 Fits NeighborSolicitation = Unit
 Fits (NeighborAdvertisement h) = Unit
 Fits Redirect = Unit

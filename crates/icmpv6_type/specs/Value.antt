@@ -47,6 +47,10 @@ typeTold NeighborSolicitation = 135 ∷ []
 typeTold (NeighborAdvertisement h) = 136 ∷ neighborTold h
 typeTold Redirect = 137 ∷ []
 
+-- the kind of a value: the first number that it is told as
+abbrev pub kindNumber : Icmpv6Type → ℕ
+kindNumber t = getD (typeTold t) 0 0
+
 -- the three parts of the head that a value is written as, beside the checksum
 abbrev pub typeNumber : Icmpv6Type → ℕ
 typeNumber (Unknown k c w) = k

@@ -1,6 +1,6 @@
 // The value that the first eight bytes of an ICMPv6 packet stand for, without the checksum.
 ghost use mathlib.Core.Path.{_≡_};
-ghost use Rattle.icmpv6_type.specs.Value.{typeTold, typeOf, typeNumber, codeNumber, fieldBytes};
+ghost use Rattle.icmpv6_type.specs.Value.{typeTold, typeOf, kindNumber, typeNumber, codeNumber, fieldBytes};
 use icmpv6_codes::dest_unreachable_code::DestUnreachableCode;
 use icmpv6_codes::dest_unreachable_code::DestUnreachableListing;
 use icmpv6_codes::parameter_problem_code::ParameterProblemCode;
@@ -104,6 +104,20 @@ impl Icmpv6Type {
             Icmpv6Type::NeighborSolicitation => 135,
             Icmpv6Type::NeighborAdvertisement(_) => 136,
             Icmpv6Type::Redirect => 137,
+        }
+    }
+
+    // The kind of the value: its type, and 0 of an Unknown, whatever type that names.
+    pub fn kind_u8(self) -> u8
+        ensures { λ r. ⌜ r ≡ kindNumber self ⌝ }
+    {
+        match self {
+            Icmpv6Type::Unknown {
+                type_u8: _,
+                code_u8: _,
+                bytes5to8: _,
+            } => 0,
+            _ => self.type_u8(),
         }
     }
 

@@ -1,17 +1,18 @@
 -- `first_reason` meets its contract: each return is the first reason whose test did not pass, and the options are what their walk says of them.
 -- Assumes nothing.
-use Rattle.receive.proofs.Options.{with-one, without, not-clean}
+use Rattle.receive.proofs.Options.{answers, not-clean}
 use Rattle.receive.specs.Receive.{isNdp, isClean, fixedLen, optionsOf, reasons}
 use Rattle.receive.specs.Rules.{ownOf}
 use Rattle.receive.specs.Reasons.{firstOf}
 use Rattle.ndp_options.specs.Walk.{walk}
 use Rattle.ndp_option_list.specs.Whole.{occurs}
+use Rattle.ndp_option_list.specs.Told.{occursTold}
 use borrow.Author.Tests.{not-true, not-false, eq-eqb, ne-eqb, lt-ltb, le-ltb}
 use native.Mathlib.Omega.{arith}
-use lib.Dec.{ltb}
+use lib.Dec.{eqb, ltb}
 use lib.ListN.{length, getD, drop}
 use mathlib.Core.Bool.{true, false, cond, not}
-use mathlib.Core.Path.{_≡_, sym, _∙_}
+use mathlib.Core.Path.{_≡_, sym, ap, _∙_}
 use Prim.Native.Nat.{_+_}
 use borrow.Author.Needs.{needs}
 use Rattle.receive.proofs.first_reason.Statement.{statement}
@@ -20,15 +21,21 @@ use Rattle.receive.proofs.first_reason.Tie as tie
 shared-slice-read-kind : tie.Need-shared-slice-read-kind
 shared-slice-read-kind c = search needs
 
+shared-slice-read-code : tie.Need-shared-slice-read-code
+shared-slice-read-code c = search needs
+
 is-ndp-requires : tie.Need-is-ndp-requires
 is-ndp-requires c κs = search needs
 
 -- the type is one of Neighbor Discovery, or not
-other : (c : tie.Then1) → isNdp (getD (c .before .before .before .before .args .packet .now) 0 0) ≡ false
+other : (c : tie.Then1) → isNdp (getD (c .before .before .before .before .before .args .packet .now) 0 0) ≡ false
 other c = sym (c .before .is-ndp .ensures) ∙ not-true _ (c .if1 .taken)
 
-ndp : (c : tie.Else1) → isNdp (getD (c .before .before .before .before .args .packet .now) 0 0) ≡ true
+ndp : (c : tie.Else1) → isNdp (getD (c .before .before .before .before .before .args .packet .now) 0 0) ≡ true
 ndp c = sym (c .before .is-ndp .ensures) ∙ not-false _ (c .if1 .left)
+
+full : (c : tie.Else3) → eqb (c .before .before .before .before .before .before .args .hop-limit) 255 ≡ true
+full c = eq-eqb (c .before .before .before .before .before .before .args .hop-limit) 255 (omega arith)
 
 validates-requires : tie.Need-validates-requires
 validates-requires c κs = search needs
@@ -43,21 +50,18 @@ returns-2 c = simp (other (c .before .before), ← (c .before .validates .ensure
 
 returns-3 : tie.Need-returns-3
 unfolding reasons firstOf
-returns-3 c = simp (ndp (c .before), ne-eqb _ _ (c .if3 .taken))
+returns-3 c = simp (ndp (c .before), ne-eqb (c .before .before .before .before .before .before .args .hop-limit) 255 (λ z. omega arith))
 
 validates-requires-2 : tie.Need-validates-requires-2
 validates-requires-2 c κs = search needs
 
 returns-4 : tie.Need-returns-4
 unfolding reasons firstOf
-returns-4 c = let h = c .before .before in simp (ndp (h .before), eq-eqb _ _ (h .if3 .left), ← (c .before .validates2 .ensures), c .if4 .taken)
-
-shared-slice-read-if5 : tie.Need-shared-slice-read-if5
-shared-slice-read-if5 c = search needs
+returns-4 c = let h = c .before .before in simp (ndp (h .before), full h, ← (c .before .validates2 .ensures), c .if4 .taken)
 
 returns-5 : tie.Need-returns-5
 unfolding reasons firstOf
-returns-5 c = let v = c .before .before in let h = v .before .before in simp (ndp (h .before), eq-eqb _ _ (h .if3 .left), ← (v .before .validates2 .ensures), v .if4 .left, ne-eqb _ _ (c .if5 .taken))
+returns-5 c = let v = c .before in let h = v .before .before in simp (ndp (h .before), full h, ← (v .before .validates2 .ensures), v .if4 .left, ne-eqb _ _ (c .if5 .taken))
 
 fixed-len-requires : tie.Need-fixed-len-requires
 fixed-len-requires c κs = search needs
@@ -76,9 +80,9 @@ past-code : (c : tie.After-fixed-len) →
     (firstOf (ownOf type (a .source .now) (a .destination .now) (a .packet .now) (occurs 1 (options .items)))))
 unfolding reasons firstOf
 past-code c =
-    let v = c .before .before .before in
+    let v = c .before .before in
     let h = v .before .before in
-    simp (ndp (h .before), eq-eqb _ _ (h .if3 .left), ← (v .before .validates2 .ensures), v .if4 .left, eq-eqb _ _ (c .before .if5 .left))
+    simp (ndp (h .before), full h, ← (v .before .validates2 .ensures), v .if4 .left, eq-eqb _ _ (c .before .if5 .left))
 
 returns-6 : tie.Need-returns-6
 unfolding reasons firstOf
@@ -134,27 +138,28 @@ returns-7 : tie.Need-returns-7
 returns-7 c =
     let t = c .before .before in
     let f = t .before .before .before in
-    sym (past-length t ∙ rw (not-clean (f .before .before .before .before .before .before .before .before .before .before .args .packet .now) (8 + f .fixed-len .result) (t .has-type .result) (t .has-type .ensures) (c .enum-told .given .1)))
+    rw (past-length t, not-clean (f .before .before .before .before .before .before .before .before .before .before .args .packet .now) (8 + f .fixed-len .result) (t .has-type .result) (t .has-type .ensures) (c .enum-told .given .1))
 
 returns-8 : tie.Need-returns-8
 returns-8 c =
     let t = c .before .before .before in
     let f = t .before .before .before in
-    let o = with-one (f .before .before .before .before .before .before .before .before .before .before .args .packet .now) (8 + f .fixed-len .result) (t .has-type .result) (t .has-type .ensures) (c .before .enum-told2 .given .1) in
-    c .own-reason .ensures ∙ sym (past-length t ∙ rw (o .0, o .1))
+    let o = answers (f .before .before .before .before .before .before .before .before .before .before .args .packet .now) (8 + f .fixed-len .result) (t .has-type .result) (t .has-type .ensures) true (ap occursTold (c .before .enum-told2 .given .1)) in
+    rw (past-length t, o .0, o .1) (c .own-reason .ensures)
 
 returns-9 : tie.Need-returns-9
 returns-9 c =
     let t = c .before .before .before in
     let f = t .before .before .before in
-    let o = without (f .before .before .before .before .before .before .before .before .before .before .args .packet .now) (8 + f .fixed-len .result) (t .has-type .result) (t .has-type .ensures) (c .before .enum-told3 .given .1) in
-    c .own-reason2 .ensures ∙ sym (past-length t ∙ rw (o .0, o .1))
+    let o = answers (f .before .before .before .before .before .before .before .before .before .before .args .packet .now) (8 + f .fixed-len .result) (t .has-type .result) (t .has-type .ensures) false (ap occursTold (c .before .enum-told3 .given .1)) in
+    rw (past-length t, o .0, o .1) (c .own-reason2 .ensures)
 
 pub first-reason-spec : {M : Type 1} → statement M
 first-reason-spec =
     tie.close
     (tie.spec
     shared-slice-read-kind
+    shared-slice-read-code
     is-ndp-requires
     validates-requires
     returns
@@ -162,7 +167,6 @@ first-reason-spec =
     returns-3
     validates-requires-2
     returns-4
-    shared-slice-read-if5
     returns-5
     fixed-len-requires
     sub-if6

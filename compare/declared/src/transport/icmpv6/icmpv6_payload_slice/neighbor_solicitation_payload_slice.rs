@@ -1,0 +1,10 @@
+crate::absent_slice!(NeighborSolicitationPayloadSlice, crate::err::LenError);
+
+impl<'a> NeighborSolicitationPayloadSlice<'a> {
+    pub fn slice(&self) -> &'a [u8] {
+        match self.never {}
+    }
+    pub fn to_payload(&self) -> (core::convert::Infallible, &'a [u8]) {
+        match self.never {}
+    }
+}

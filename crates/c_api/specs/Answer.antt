@@ -1,0 +1,43 @@
+-- What came, as the first number of every answer to C: all differ, and none is 0.
+-- Assumes nothing.
+use Prim.Native.Nat.{ℕ}
+use mathlib.Core.List.{List, [], _∷_}
+
+abbrev pub REFUSED : ℕ
+REFUSED = 1
+
+-- a head whose type and code are in the table; another head
+abbrev pub KNOWN : ℕ
+KNOWN = 2
+
+abbrev pub UNKNOWN : ℕ
+UNKNOWN = 3
+
+-- a verdict
+abbrev pub VALID : ℕ
+VALID = 4
+
+abbrev pub INVALID : ℕ
+INVALID = 5
+
+-- a step of a walk
+abbrev pub OPTION : ℕ
+OPTION = 6
+
+abbrev pub END : ℕ
+END = 7
+
+abbrev pub STOPPED : ℕ
+STOPPED = 8
+
+-- a packet that passed the receive check
+abbrev pub RECEIVED : ℕ
+RECEIVED = 9
+
+-- an option that was read
+abbrev pub PREFIX : ℕ
+PREFIX = 11
+
+-- the values of a refusal where nothing is refused
+abbrev pub none : List ℕ
+none = 0 ∷ 0 ∷ 0 ∷ 0 ∷ []

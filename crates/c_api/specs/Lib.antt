@@ -1,0 +1,6 @@
+pub mod Answer
+pub mod Head
+pub mod Verified
+pub mod Received
+pub mod Stepped
+pub mod Prefix

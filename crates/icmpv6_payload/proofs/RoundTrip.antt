@@ -1,0 +1,38 @@
+-- Each fixed part is read back as it was written, and written back as it was read. The target of a neighbor message is its own bytes.
+-- Assumes nothing.
+use Prim.Native.Nat.{ℕ, _<_}
+use mathlib.Core.Path.{_≡_, sym, ap, _∙_}
+use mathlib.Core.List.{List, [], _∷_, _++_}
+use native.Mathlib.Omega.{arith}
+use lib.ListN.{length, getD, take, drop, take-append-drop}
+use lib.Seq.{take-at, drop-at}
+use Rattle.wire.specs.Wire.{bytes32}
+use Rattle.wire.proofs.Laws.{join32, split32}
+use Rattle.icmpv6_payload.specs.declared.redirect_payload.RedirectPayload.{RedirectPayload}
+use Rattle.icmpv6_payload.specs.declared.router_advertisement_payload.RouterAdvertisementPayload.{RouterAdvertisementPayload}
+use Rattle.icmpv6_payload.specs.Owned.{timersIn, timersTold, timersBytes, redirectBytes}
+
+-- the premises say that the timers are of 32 bits, and bytes below 256, as their types have it
+pub timers-written : (p : RouterAdvertisementPayload) → p .«reachable_time» < 4294967296 → p .«retrans_timer» < 4294967296 → timersIn (timersBytes p) ≡ timersTold p
+timers-written p h k = simp (join32 (p .«reachable_time») h, join32 (p .«retrans_timer») k)
+
+module _ (s : List ℕ) (bytes : (i : ℕ) → getD s i 0 < 256) where
+  abbrev first : List ℕ
+  first = getD s 0 0 ∷ getD s 1 0 ∷ getD s 2 0 ∷ getD s 3 0 ∷ []
+
+  abbrev second : List ℕ
+  second = getD s 4 0 ∷ getD s 5 0 ∷ getD s 6 0 ∷ getD s 7 0 ∷ []
+
+  -- the eight bytes that were read, one by one
+  pub timers-read : (p : RouterAdvertisementPayload) → timersTold p ≡ timersIn s → timersBytes p ≡ first ++ second
+  timers-read p read =
+      ap (λ (l : List ℕ). bytes32 (getD l 0 0) ++ bytes32 (getD l 1 0)) read
+      ∙ ap (λ (l : List ℕ). l ++ bytes32 (getD (timersIn s) 1 0)) (split32 (getD s 0 0) (getD s 1 0) (getD s 2 0) (getD s 3 0) (bytes 0) (bytes 1) (bytes 2) (bytes 3))
+      ∙ ap (λ (l : List ℕ). first ++ l) (split32 (getD s 4 0) (getD s 5 0) (getD s 6 0) (getD s 7 0) (bytes 4) (bytes 5) (bytes 6) (bytes 7))
+
+module _ (p : RedirectPayload) where
+  pub redirect-written : length (p .«target_address») ≡ 16 → (take 16 (redirectBytes p) ≡ p .«target_address») × (drop 16 (redirectBytes p) ≡ p .«destination_address»)
+  redirect-written h = (take-at (p .«target_address») (p .«destination_address») 16 h, drop-at (p .«target_address») (p .«destination_address») 16 h)
+
+  pub redirect-read : (s : List ℕ) → p .«target_address» ≡ take 16 s → p .«destination_address» ≡ drop 16 s → redirectBytes p ≡ s
+  redirect-read s t d = rw (t, d) (take-append-drop 16 s)

@@ -1,0 +1,37 @@
+// The fixed part of a redirect (RFC 4861, section 4.5): the better first hop, and the destination that is redirected to it.
+ghost use mathlib.Core.Path.{_≡_};
+ghost use lib.ListN.{take, drop};
+ghost use Rattle.icmpv6_payload.specs.Owned.{redirectBytes};
+
+pub struct RedirectPayload {
+    pub target_address: [u8; 16],
+    pub destination_address: [u8; 16],
+}
+
+impl RedirectPayload {
+    pub const LEN: usize = 32;
+
+    pub fn from_bytes(bytes: [u8; 32]) -> Self
+        ensures { λ r. ⌜ (r .«target_address» ≡ take 16 bytes) × (r .«destination_address» ≡ drop 16 bytes) ⌝ }
+    {
+        let mut target_address = [0; 16];
+        output::put_at(&mut target_address, 0, &bytes[..16]);
+        let mut destination_address = [0; 16];
+        output::put_at(&mut destination_address, 0, &bytes[16..]);
+        Self {
+            target_address,
+            destination_address,
+        }
+    }
+
+    pub fn to_bytes(self) -> [u8; 32]
+        ensures { λ r. ⌜ r ≡ redirectBytes self ⌝ }
+    {
+        let target = self.target_address;
+        let destination = self.destination_address;
+        let mut bytes = [0; 32];
+        output::put_at(&mut bytes, 0, &target);
+        output::put_at(&mut bytes, 16, &destination);
+        bytes
+    }
+}

@@ -1,0 +1,70 @@
+-- The two dispatches: on a value that was decoded they agree, since its kind is the type where the table has the pair; on an Unknown that names
+-- a known pair they differ.
+-- Assumes nothing.
+use Prim.Native.Nat.{ℕ, _+_, _<_, _≤_}
+use mathlib.Core.Bool.{Bool, true, false, cond}
+use mathlib.Core.Path.{_≡_, refl, sym, ap, _∙_}
+use mathlib.Core.List.{List, [], _∷_, _++_}
+use native.Mathlib.Omega.{arith}
+use lib.Dec.{ltb}
+use lib.ListN.{length, getD, drop}
+use borrow.Author.Tests.{ltb-true, ltb-false, lt-ltb}
+use Rattle.paper.specs.Paper.{Paper, refuses, gives}
+use Rattle.message_table.specs.Table.{rows, rowOf, known, fixedPart}
+use Rattle.message_table.proofs.View.{view, not-0}
+use Rattle.packet_length.specs.Length.{limit, sized}
+use Rattle.packet_length.proofs.Laws.{Between, sized-fits}
+use Rattle.icmpv6_type.specs.declared.Icmpv6Type.{Icmpv6Type}
+use Rattle.icmpv6_type.specs.declared.Icmpv6Type.the-variants.{Unknown}
+use Rattle.icmpv6_type.specs.Value.{typeTold, typeOf, kindNumber, fieldsOf, wordOf}
+use Rattle.icmpv6.specs.declared.icmpv6_header.Icmpv6Header.{Icmpv6Header}
+use Rattle.icmpv6.specs.Head.{decodeOf, encodeOf, headerTold, fieldsAt}
+use Rattle.icmpv6_payload_slice.specs.Dispatch.{fixedOf, kindOf, payloadOf, byValue, kindAt, byBytes}
+use Rattle.icmpv6_payload_slice.proofs.Laws.{whole, known-pair}
+
+-- the kind of a value that was read
+kind-read : (k c : ℕ) (b : List ℕ) (t : Icmpv6Type) → typeTold t ≡ typeOf k c b → kindNumber t ≡ cond (known k c) k 0
+unfolding typeOf
+kind-read k c b t e = ap (λ (l : List ℕ). getD l 0 0) e ∙ by (known k c)
+  where
+    by : (x : Bool) → getD (cond x (k ∷ fieldsOf k c b) (0 ∷ k ∷ c ∷ wordOf b ∷ [])) 0 0 ≡ cond x k 0
+    by true = refl
+    by false = refl
+
+-- what was decoded has a length that fits
+decoded-fits : (n : ℕ) (x : Paper) (v : List ℕ) → sized n x ≡ gives v → Between n
+unfolding sized
+decoded-fits n x v = by (ltb n 8) (ltb limit n) refl refl
+  where
+    by : (a b : Bool) → ltb n 8 ≡ a → ltb limit n ≡ b → cond a (refuses 1 (8 ∷ n ∷ [])) (cond b (refuses 2 (limit ∷ n ∷ [])) x) ≡ gives v → Between n
+    by true b e f q = absurd (let z : _≡_ {A = ℕ} 1 0 = ap (λ (p : Paper). p .number) q in omega arith)
+    by false true e f q = absurd (let z : _≡_ {A = ℕ} 2 0 = ap (λ (p : Paper). p .number) q in omega arith)
+    by false false e f q = record { low = ltb-false n 8 e; high = ltb-false limit n f }
+
+-- on decoded values the two agree: kind, place and refusal
+pub agree : (p : List ℕ) (h : Icmpv6Header) → decodeOf p ≡ gives (headerTold h) → byBytes p ≡ byValue (h .«icmp_type») (drop 8 p)
+unfolding decodeOf byBytes
+agree p h e =
+    let fits = decoded-fits (length p) _ (headerTold h) e in
+    let told = sym (ap (λ (x : Paper). drop 1 (x .values)) (sym (sized-fits (length p) (fits .low) (fits .high) _) ∙ e)) in
+    sized-fits (length p) (fits .low) (fits .high) _
+    ∙ ap (λ (k : ℕ). payloadOf k (drop 8 p)) (sym (kind-read (getD p 0 0) (getD p 1 0) (fieldsAt p) (h .«icmp_type») told))
+
+-- a type that has some code has code 0
+known-0 : (k c : ℕ) → known k c ≡ true → known k 0 ≡ true
+unfolding known
+known-0 k c e = let l = ltb-true c (rowOf rows k .codes) e in lt-ltb 0 (rowOf rows k .codes) (omega arith)
+
+-- an Unknown is Raw by its value, whatever it names
+pub unknown-raw : (k c w : ℕ) (s : List ℕ) → byValue (Unknown k c w) s ≡ gives (0 ∷ 0 ∷ [])
+unfolding fixedPart known
+unknown-raw k c w s = whole 0 s (omega arith)
+
+-- and where it names a known pair, its bytes are of the structured kind, which is not Raw
+module _ (k c w sum : ℕ) (s : List ℕ) (named : known k c ≡ true) (present : fixedOf k ≤ length s) (room : length s ≤ 4294967287) where
+  pub misnamed-structured : (byBytes (encodeOf (record { «icmp_type» = Unknown k c w; checksum = sum }) ++ s) ≡ gives (fixedOf k ∷ kindOf k s)) × (getD (kindOf k s) 0 0 ≡ k) × (k ≡ 0 → ⊥)
+  misnamed-structured = (
+    known-pair (encodeOf (record { «icmp_type» = Unknown k c w; checksum = sum }) ++ s) (record { low = omega arith; high = omega arith }) named ∙ whole k s present,
+    rw (known-0 k c named),
+    λ e. not-0 (view k c named) (sym e),
+  )

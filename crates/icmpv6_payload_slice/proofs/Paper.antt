@@ -1,0 +1,60 @@
+-- What a dispatch is told as loses nothing: the kind's number says how to take it back.
+-- Assumes nothing.
+use Prim.Native.Nat.{ℕ}
+use mathlib.Core.Bool.{cond}
+use mathlib.Core.Path.{_≡_, refl}
+use mathlib.Core.List.{List}
+use lib.Dec.{eqb}
+use lib.ListN.{getD, drop}
+use Rattle.paper.specs.Paper.{Paper}
+use Rattle.paper.proofs.Lossless.{lossless}
+use Rattle.refusal.proofs.Paper.{refusalOf, refusal-back, refusal-numbered}
+use Rattle.icmpv6_payload.proofs.Paper.{timersFrom}
+use Rattle.icmpv6_payload_slice.specs.declared.Icmpv6PayloadKind.{Icmpv6PayloadKind}
+use Rattle.icmpv6_payload_slice.specs.declared.Icmpv6PayloadKind.the-variants.{Raw, DestinationUnreachable, PacketTooBig, TimeExceeded, ParameterProblem, EchoRequest, EchoReply, RouterSolicitation, RouterAdvertisement, NeighborSolicitation, NeighborAdvertisement, Redirect}
+use Rattle.icmpv6_payload_slice.specs.declared.Icmpv6PayloadSlice.{Icmpv6PayloadSlice}
+use Rattle.icmpv6_payload_slice.specs.declared.PayloadRead.{PayloadRead}
+use Rattle.icmpv6_payload_slice.specs.declared.PayloadRead.the-variants.{Payload, Refused}
+use Rattle.icmpv6_payload_slice.specs.Dispatch.{kindTold, readTold}
+
+abbrev kindFrom : List ℕ → Icmpv6PayloadKind
+kindFrom l =
+    let k = getD l 0 0 in
+    cond (eqb k 1) DestinationUnreachable
+    (cond (eqb k 2) PacketTooBig
+    (cond (eqb k 3) TimeExceeded
+    (cond (eqb k 4) ParameterProblem
+    (cond (eqb k 128) EchoRequest
+    (cond (eqb k 129) EchoReply
+    (cond (eqb k 133) RouterSolicitation
+    (cond (eqb k 134) (RouterAdvertisement (timersFrom (drop 1 l)))
+    (cond (eqb k 135) NeighborSolicitation
+    (cond (eqb k 136) NeighborAdvertisement
+    (cond (eqb k 137) Redirect
+    Raw))))))))))
+
+kind-back : (k : Icmpv6PayloadKind) → kindFrom (kindTold k) ≡ k
+kind-back Raw = refl
+kind-back DestinationUnreachable = refl
+kind-back PacketTooBig = refl
+kind-back TimeExceeded = refl
+kind-back ParameterProblem = refl
+kind-back EchoRequest = refl
+kind-back EchoReply = refl
+kind-back RouterSolicitation = refl
+kind-back (RouterAdvertisement p) = refl
+kind-back NeighborSolicitation = refl
+kind-back NeighborAdvertisement = refl
+kind-back Redirect = refl
+
+abbrev readFrom : Paper → PayloadRead
+readFrom p =
+    cond (eqb (p .number) 0) (Payload (record { kind = kindFrom (drop 1 (p .values)); «options_at» = getD (p .values) 0 0 }))
+    (Refused (refusalOf p))
+
+read-back : (r : PayloadRead) → readFrom (readTold r) ≡ r
+read-back (Payload p) = simp (kind-back (p .kind))
+read-back (Refused r) = simp (refusal-numbered r, refusal-back r)
+
+pub read-lossless : (x y : PayloadRead) → readTold x ≡ readTold y → x ≡ y
+read-lossless = lossless readTold readFrom read-back

@@ -1,0 +1,119 @@
+-- `kind_of` meets its contract: each arm names the kind of its type, and a type that no arm has is none of the table.
+-- Assumes nothing.
+use mathlib.Core.List.{List, _∷_}
+use Prim.Native.Nat.{ℕ, _≤_}
+use denote.Ref.{now}
+use lib.ListN.{length}
+use Rattle.message_table.proofs.Laws.{unlisted}
+use Rattle.icmpv6_payload_slice.proofs.Laws.{eight}
+use mathlib.Core.Path.{_≡_, sym, ap, _∙_}
+use native.Mathlib.Omega.{arith}
+use Rattle.message_table.specs.Table.{known}
+use borrow.Author.Needs.{needs}
+use Rattle.icmpv6_payload_slice.proofs.kind_of.Statement.{statement}
+use Rattle.icmpv6_payload_slice.proofs.kind_of.Tie as tie
+
+-- of a router advertisement eight bytes are there
+enough : (c : tie.At-match-keys8) → 8 ≤ length (now (c .before .before .args .payload))
+enough c = rw (c .match .keys8, eight) at (c .before .before .pre)
+
+shared-slice-read-t6 : tie.Need-shared-slice-read-t6
+shared-slice-read-t6 c = let e = enough (c .before) in omega arith
+
+shared-slice-read-t8 : tie.Need-shared-slice-read-t8
+shared-slice-read-t8 c = let e = enough (c .before .before) in omega arith
+
+shared-slice-read-t10 : tie.Need-shared-slice-read-t10
+shared-slice-read-t10 c = let e = enough (c .before .before .before) in omega arith
+
+shared-slice-read-t12 : tie.Need-shared-slice-read-t12
+shared-slice-read-t12 c = let e = enough (c .before .before .before .before) in omega arith
+
+shared-slice-read-t14 : tie.Need-shared-slice-read-t14
+shared-slice-read-t14 c = let e = enough (c .before .before .before .before .before) in omega arith
+
+shared-slice-read-t16 : tie.Need-shared-slice-read-t16
+shared-slice-read-t16 c = let e = enough (c .before .before .before .before .before .before) in omega arith
+
+shared-slice-read-t18 : tie.Need-shared-slice-read-t18
+shared-slice-read-t18 c = let e = enough (c .before .before .before .before .before .before .before) in omega arith
+
+shared-slice-read-t20 : tie.Need-shared-slice-read-t20
+shared-slice-read-t20 c = let e = enough (c .before .before .before .before .before .before .before .before) in omega arith
+
+from-bytes-requires : tie.Need-from-bytes-requires
+from-bytes-requires c κs = search needs
+
+returns : tie.Need-returns
+unfolding known
+returns c = rw (c .match .keys1)
+
+returns-2 : tie.Need-returns-2
+unfolding known
+returns-2 c = rw (c .match .keys2)
+
+returns-3 : tie.Need-returns-3
+unfolding known
+returns-3 c = rw (c .match .keys3)
+
+returns-4 : tie.Need-returns-4
+unfolding known
+returns-4 c = rw (c .match .keys4)
+
+returns-5 : tie.Need-returns-5
+unfolding known
+returns-5 c = rw (c .match .keys5)
+
+returns-6 : tie.Need-returns-6
+unfolding known
+returns-6 c = rw (c .match .keys6)
+
+returns-7 : tie.Need-returns-7
+unfolding known
+returns-7 c = rw (c .match .keys7)
+
+returns-8 : tie.Need-returns-8
+unfolding known
+returns-8 c = rw (c .before .before .before .before .before .before .before .before .before .match .keys8) (ap (λ (l : List ℕ). 134 ∷ l) (c .from-bytes .ensures))
+
+returns-9 : tie.Need-returns-9
+unfolding known
+returns-9 c = rw (c .match .keys9)
+
+returns-10 : tie.Need-returns-10
+unfolding known
+returns-10 c = rw (c .match .keys10)
+
+returns-11 : tie.Need-returns-11
+unfolding known
+returns-11 c = rw (c .match .keys11)
+
+returns-12 : tie.Need-returns-12
+returns-12 c = let r = c .match .rest in
+    rw (unlisted (c .before .before .args .type-u8) 0 (r .0 .0 .0 .0 .0 .0 .0 .0 .0 .0 .1) (r .0 .0 .0 .0 .0 .0 .0 .0 .0 .1) (r .0 .0 .0 .0 .0 .0 .0 .0 .1) (r .0 .0 .0 .0 .0 .0 .0 .1) (r .0 .0 .0 .0 .0 .0 .1) (r .0 .0 .0 .0 .0 .1) (r .0 .0 .0 .0 .1) (r .0 .0 .0 .1) (r .0 .0 .1) (r .0 .1) (r .1))
+
+pub kind-of-spec : {M : Type 1} → statement M
+kind-of-spec =
+    tie.close
+    (tie.spec
+    shared-slice-read-t6
+    shared-slice-read-t8
+    shared-slice-read-t10
+    shared-slice-read-t12
+    shared-slice-read-t14
+    shared-slice-read-t16
+    shared-slice-read-t18
+    shared-slice-read-t20
+    from-bytes-requires
+    returns
+    returns-2
+    returns-3
+    returns-4
+    returns-5
+    returns-6
+    returns-7
+    returns-8
+    returns-9
+    returns-10
+    returns-11
+    returns-12)

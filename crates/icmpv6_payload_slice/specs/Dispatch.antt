@@ -1,0 +1,63 @@
+-- Document 01, "The eight-byte head": a payload by its type. Refusal 4 where it is shorter than the type's fixed part, counted from the
+-- payload's first byte.
+-- Assumes nothing.
+use Prim.Native.Nat.{ℕ}
+use mathlib.Core.Bool.{cond}
+use mathlib.Core.List.{List, [], _∷_}
+use lib.Dec.{eqb, ltb}
+use lib.ListN.{length, getD, drop}
+use Rattle.paper.specs.Paper.{Paper, refuses, gives}
+use Rattle.refusal.specs.Paper.{refusal}
+use Rattle.message_table.specs.Table.{known, fixedPart}
+use Rattle.packet_length.specs.Length.{sized}
+use Rattle.icmpv6_type.specs.declared.Icmpv6Type.{Icmpv6Type}
+use Rattle.icmpv6_type.specs.Value as value
+use Rattle.icmpv6_payload_slice.specs.declared.Icmpv6PayloadKind.{Icmpv6PayloadKind}
+use Rattle.icmpv6_payload_slice.specs.declared.Icmpv6PayloadKind.the-variants.{Raw, DestinationUnreachable, PacketTooBig, TimeExceeded, ParameterProblem, EchoRequest, EchoReply, RouterSolicitation, RouterAdvertisement, NeighborSolicitation, NeighborAdvertisement, Redirect}
+use Rattle.icmpv6_payload_slice.specs.declared.PayloadRead.{PayloadRead}
+use Rattle.icmpv6_payload_slice.specs.declared.PayloadRead.the-variants.{Payload, Refused}
+use Rattle.icmpv6_payload.specs.Owned.{timersIn, timersTold}
+
+-- the bytes of a type's fixed part; none of a type that the table does not have
+abbrev pub fixedOf : ℕ → ℕ
+fixedOf k = getD (fixedPart k .values) 0 0
+
+-- the kind of a type that the table has is the type, with the timers of a router advertisement; of any other it is 0, raw
+abbrev pub kindOf : ℕ → List ℕ → List ℕ
+kindOf k s = cond (known k 0) (k ∷ cond (eqb k 134) (timersIn s) []) (0 ∷ [])
+
+-- the place behind the fixed part, and the kind
+unfoldable pub payloadOf : ℕ → List ℕ → Paper
+payloadOf k s = cond (ltb (length s) (fixedOf k)) (refuses 4 (fixedOf k ∷ length s ∷ [])) (gives (fixedOf k ∷ kindOf k s))
+
+-- by the value of the head: its kind, which is 0 where it is Unknown
+abbrev pub byValue : Icmpv6Type → List ℕ → Paper
+byValue t s = payloadOf (value.kindNumber t) s
+
+-- by the bytes of a packet: its type, where the table has it with its code
+abbrev pub kindAt : List ℕ → ℕ
+kindAt p = cond (known (getD p 0 0) (getD p 1 0)) (getD p 0 0) 0
+
+unfoldable pub byBytes : List ℕ → Paper
+byBytes p = sized (length p) (payloadOf (kindAt p) (drop 8 p))
+
+abbrev pub kindTold : Icmpv6PayloadKind → List ℕ
+kindTold Raw = 0 ∷ []
+kindTold DestinationUnreachable = 1 ∷ []
+kindTold PacketTooBig = 2 ∷ []
+kindTold TimeExceeded = 3 ∷ []
+kindTold ParameterProblem = 4 ∷ []
+kindTold EchoRequest = 128 ∷ []
+kindTold EchoReply = 129 ∷ []
+kindTold RouterSolicitation = 133 ∷ []
+kindTold (RouterAdvertisement p) = 134 ∷ timersTold p
+kindTold NeighborSolicitation = 135 ∷ []
+kindTold NeighborAdvertisement = 136 ∷ []
+kindTold Redirect = 137 ∷ []
+
+abbrev pub kindNumber : Icmpv6PayloadKind → ℕ
+kindNumber k = getD (kindTold k) 0 0
+
+abbrev pub readTold : PayloadRead → Paper
+readTold (Payload p) = gives (p .«options_at» ∷ kindTold (p .kind))
+readTold (Refused r) = refusal r

@@ -1,0 +1,81 @@
+-- An option that is put is read back by the walk as exactly that option, and by its own reader as what was written: one law for every option,
+-- over its bytes, and for each encoder that its bytes are a whole option.
+-- Assumes nothing.
+use Prim.Native.Nat.{ℕ, _<_, _≤_}
+use native.Mathlib.Omega.{arith}
+use mathlib.Core.Path.{_≡_, refl, sym, ap, _∙_}
+use mathlib.Core.List.{List, [], _∷_, append-nil}
+use lib.ListN.{length, getD, take}
+use lib.Seq.{take-append-seam}
+use Rattle.paper.specs.Paper.{Paper, gives}
+use Rattle.output.specs.Output.{roomFor, leaves}
+use Rattle.output.proofs.Laws.{room}
+use Rattle.wire.proofs.Laws.{join32}
+use Rattle.ndp_walk.specs.Judge.{Fits}
+use Rattle.ndp_walk.specs.Walk.{Clean, Walk, item}
+use Rattle.ndp_walk.specs.Laws.{kindIn}
+use Rattle.ndp_option_header.specs.Header.{bytesOf as unitBytes}
+use Rattle.ndp_option_read.specs.Rule.{sizedOf, partFrom}
+use lib.Dec.{lit<}
+use Rattle.ndp_options.specs.Rule.{rule}
+use Rattle.ndp_options.specs.Walk.{walk}
+use Rattle.ndp_options.proofs.Laws.{options-clean}
+use Rattle.ndp_option_read.proofs.Rules.{exactly-accepts}
+use Rattle.ndp_option.specs.declared.link_layer_address_option.LinkLayerAddressOption.{LinkLayerAddressOption}
+use Rattle.ndp_option.specs.declared.link_layer_address_option.LinkLayerAddressOption.the-variants.{Source, Target}
+use Rattle.ndp_option.specs.LinkLayer.{typeOf}
+use Rattle.ndp_option.specs.Mtu.{mtuOf}
+use Rattle.prefix_information.specs.declared.PrefixInformation.{PrefixInformation}
+use Rattle.prefix_information.specs.Prefix.{bytesOf}
+use Rattle.option_writer.specs.Options.{mtuBytes, sixOf, linkLayerBytes}
+
+-- what putting some bytes promises, said of the option that they are
+pub put-as : {p : Paper} {left : List ℕ} (out b o : List ℕ) (n : ℕ) → b ≡ o → length b ≡ n → p ≡ roomFor (length b) out → left ≡ leaves (roomFor (length b) out) b out
+    → (p ≡ roomFor n out) × (left ≡ leaves (roomFor n out) o out)
+put-as out b o n e l p q = rw (← l, ← e) (p, q)
+
+-- bytes that are an option of a kind: as long as their second byte says, and of a size that their type's rule takes
+pub record Option (kind : ℕ) (o : List ℕ) : Type 0 where
+  pub some : 0 < getD o 1 0
+  pub long : length o ≡ unitBytes (getD o 1 0)
+  pub fits : rule o ≡ Fits kind
+
+-- the walk over one option
+abbrev pub alone : ℕ → List ℕ → Walk
+alone kind o = record { items = item kind (getD o 0 0) 0 (length o) ∷ []; ending = Clean }
+
+module _ {kind : ℕ} {o : List ℕ} (is : Option kind o) where
+  walked : walk o ≡ alone kind o
+  walked =
+      let same : kindIn (rule o) ≡ kind = ap kindIn (is .fits) in
+      ap walk (sym (append-nil o))
+      ∙ options-clean (o ∷ []) ((is .some, is .long, is .fits ∙ ap Fits (sym same)), tt)
+      ∙ ap (λ (k : ℕ). alone k o) same
+
+  -- the walk over what was written at the start of a buffer hands out exactly that option, and ends
+  pub read-back : (out : List ℕ) → length o ≤ length out → walk (take (length o) (leaves (roomFor (length o) out) o out)) ≡ alone kind o
+  read-back out enough = rw (room (length o) out enough, take-append-seam) walked
+
+-- the encoders' bytes
+pub prefix-option : (i : PrefixInformation) → length (i .prefix) ≡ 16 → Option 3 (bytesOf i)
+unfolding rule
+prefix-option i h = record { some = lit< tt; long = omega arith; fits = rw h }
+
+pub mtu-option : (mtu : ℕ) → Option 5 (mtuBytes mtu)
+unfolding rule
+mtu-option mtu = record { some = lit< tt; long = refl; fits = refl }
+
+pub link-layer-option : (whose : LinkLayerAddressOption) (address : List ℕ) → Option (typeOf whose) (linkLayerBytes whose address)
+unfolding rule
+link-layer-option Source address = record { some = lit< tt; long = refl; fits = refl }
+link-layer-option Target address = record { some = lit< tt; long = refl; fits = refl }
+
+-- and each option's own reader gives back what was written (of the prefix information: prefix_information.proofs.RoundTrip)
+pub mtu-read : (mtu : ℕ) → mtu < 4294967296 → mtuOf (mtuBytes mtu) ≡ gives (mtu ∷ [])
+unfolding mtuOf
+mtu-read mtu h = simp (exactly-accepts 5 1 (mtuBytes mtu) (record { size = refl; kind = refl; says = refl }), join32 mtu h)
+
+pub link-layer-read : (whose : LinkLayerAddressOption) (address : List ℕ) → let o = linkLayerBytes whose address in partFrom 2 (sizedOf (typeOf whose) o) o ≡ sixOf address
+unfolding sizedOf
+link-layer-read Source address = refl
+link-layer-read Target address = refl

@@ -1,0 +1,63 @@
+-- `write_link_layer_address` meets its contract: what is put are the eight bytes of the option.
+-- Assumes nothing.
+use Prim.Native.Nat.{ℕ}
+use mathlib.Core.List.{List, [], _∷_}
+use mathlib.Core.Path.{_≡_, refl, ap}
+use Rattle.option_writer.specs.Options.{sixOf, linkLayerBytes}
+use Rattle.option_writer.proofs.Laws.{put-as}
+use denote.Ref.{now}
+use borrow.Author.Needs.{needs}
+use Rattle.option_writer.proofs.write_link_layer_address.Statement.{statement}
+use Rattle.option_writer.proofs.write_link_layer_address.Tie as tie
+
+option-type-requires : tie.Need-option-type-requires
+option-type-requires c κs = search needs
+
+array-read-t9 : tie.Need-array-read-t9
+array-read-t9 c = search needs
+
+array-read-t12 : tie.Need-array-read-t12
+array-read-t12 c = search needs
+
+array-read-t15 : tie.Need-array-read-t15
+array-read-t15 c = search needs
+
+array-read-t18 : tie.Need-array-read-t18
+array-read-t18 c = search needs
+
+array-read-t21 : tie.Need-array-read-t21
+array-read-t21 c = search needs
+
+array-read-t24 : tie.Need-array-read-t24
+array-read-t24 c = search needs
+
+slice-aggregate-put : tie.Need-slice-aggregate-put
+slice-aggregate-put c = search needs
+
+put-requires : tie.Need-put-requires
+put-requires c κs = search needs
+
+same-length : tie.Need-same-length
+same-length c = search needs
+
+returns : tie.Need-returns
+returns c = let p = c .before .before in
+    let t = p .before .before .before in
+    let a = t .before .before .args in
+    put-as (now (a .out)) _ (linkLayerBytes (a .whose) (a .t2)) 8 (ap (λ (k : ℕ). k ∷ 1 ∷ sixOf (a .t2)) (t .option-type .ensures)) refl (p .put .ensures .0) (p .put .ensures .1)
+
+pub write-link-layer-address-spec : {M : Type 1} → statement M
+write-link-layer-address-spec =
+    tie.close
+    (tie.spec
+    option-type-requires
+    array-read-t9
+    array-read-t12
+    array-read-t15
+    array-read-t18
+    array-read-t21
+    array-read-t24
+    slice-aggregate-put
+    put-requires
+    same-length
+    returns)

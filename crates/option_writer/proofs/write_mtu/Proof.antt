@@ -1,0 +1,55 @@
+-- `write_mtu` meets its contract: what is put are the eight bytes of the option.
+-- Assumes nothing.
+use Prim.Native.Nat.{ℕ}
+use lib.ListN.{length, getD}
+use mathlib.Core.List.{List, [], _∷_}
+use mathlib.Core.Path.{_≡_, refl, ap}
+use Rattle.option_writer.specs.Options.{mtuBytes}
+use Rattle.option_writer.proofs.Laws.{put-as}
+use denote.Ref.{now}
+use borrow.Author.Needs.{needs}
+use Rattle.option_writer.proofs.write_mtu.Statement.{statement}
+use Rattle.option_writer.proofs.write_mtu.Tie as tie
+
+u32-to-be-requires : tie.Need-u32-to-be-requires
+u32-to-be-requires c κs = search needs
+
+array-read-t8 : tie.Need-array-read-t8
+array-read-t8 c = search needs
+
+array-read-t11 : tie.Need-array-read-t11
+array-read-t11 c = search needs
+
+array-read-t14 : tie.Need-array-read-t14
+array-read-t14 c = search needs
+
+array-read-t17 : tie.Need-array-read-t17
+array-read-t17 c = search needs
+
+slice-aggregate-put : tie.Need-slice-aggregate-put
+slice-aggregate-put c = search needs
+
+put-requires : tie.Need-put-requires
+put-requires c κs = search needs
+
+same-length : tie.Need-same-length
+same-length c = search needs
+
+returns : tie.Need-returns
+returns c = let p = c .before .before in
+    let m = p .before .before .before in
+    put-as (now (m .before .before .args .out)) _ (mtuBytes (m .before .before .args .mtu)) 8 (ap (λ (l : List ℕ). 5 ∷ 1 ∷ 0 ∷ 0 ∷ getD l 0 0 ∷ getD l 1 0 ∷ getD l 2 0 ∷ getD l 3 0 ∷ []) (m .u32-to-be .ensures)) refl (p .put .ensures .0) (p .put .ensures .1)
+
+pub write-mtu-spec : {M : Type 1} → statement M
+write-mtu-spec =
+    tie.close
+    (tie.spec
+    u32-to-be-requires
+    array-read-t8
+    array-read-t11
+    array-read-t14
+    array-read-t17
+    slice-aggregate-put
+    put-requires
+    same-length
+    returns)

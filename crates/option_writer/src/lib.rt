@@ -1,0 +1,50 @@
+// Encoders of the options that a sender needs (RFC 4861, section 4.6), each at the start of a lent buffer: refusal 9 where it is too short.
+ghost use mathlib.Core.Path.{_≡_};
+ghost use Rattle.output.specs.Output.{writtenTold, roomFor, leaves};
+ghost use Rattle.prefix_information.specs.Prefix.{bytesOf};
+ghost use Rattle.option_writer.specs.Options.{mtuBytes, linkLayerBytes};
+use ndp_option::link_layer_address_option::LinkLayerAddressOption;
+use output::Written;
+use prefix_information::PrefixInformation;
+
+// Section 4.6.2.
+pub fn write_prefix_information(information: PrefixInformation, out: &mut [u8]) -> Written
+    ensures answers { λ r. ⌜ writtenTold r ≡ roomFor 32 (now (out .entry)) ⌝ }
+    ensures lent { λ r. ⌜ now (out .exit) ≡ leaves (roomFor 32 (now (out .entry))) (bytesOf information) (now (out .entry)) ⌝ }
+{
+    let bytes = information.to_bytes();
+    output::put(out, &bytes)
+}
+
+// Section 4.6.4; the reserved bytes are 0.
+pub fn write_mtu(mtu: u32, out: &mut [u8]) -> Written
+    ensures answers { λ r. ⌜ writtenTold r ≡ roomFor 8 (now (out .entry)) ⌝ }
+    ensures lent { λ r. ⌜ now (out .exit) ≡ leaves (roomFor 8 (now (out .entry))) (mtuBytes mtu) (now (out .entry)) ⌝ }
+{
+    let m = wire::u32_to_be(mtu);
+    let bytes = [5, 1, 0, 0, m[0], m[1], m[2], m[3]];
+    output::put(out, &bytes)
+}
+
+// Section 4.6.1: the source's or the target's address, of six bytes as on an Ethernet (RFC 2464, section 6).
+pub fn write_link_layer_address(
+    whose: LinkLayerAddressOption,
+    address: [u8; 6],
+    out: &mut [u8],
+) -> Written
+    ensures answers { λ r. ⌜ writtenTold r ≡ roomFor 8 (now (out .entry)) ⌝ }
+    ensures lent { λ r. ⌜ now (out .exit) ≡ leaves (roomFor 8 (now (out .entry))) (linkLayerBytes whose address) (now (out .entry)) ⌝ }
+{
+    let id = whose.option_type();
+    let bytes = [
+        id.0,
+        1,
+        address[0],
+        address[1],
+        address[2],
+        address[3],
+        address[4],
+        address[5],
+    ];
+    output::put(out, &bytes)
+}

@@ -1,0 +1,177 @@
+// The readers of single options.
+use crate::numbers;
+use crate::numbers::Told;
+use crate::numbers::tell;
+use ndp_option::mtu_option::MtuOption;
+use ndp_option::redirected_header_option;
+use ndp_option_header::HeaderRead;
+use ndp_option_header::NdpOptionHeader;
+use ndp_option_read::NdpOptionRead;
+use prefix_information::PrefixInformation;
+use prefix_information::PrefixInformationRead;
+
+pub(crate) fn header_from_slice(input: &[u8]) -> Told {
+    match NdpOptionHeader::from_slice(input) {
+        HeaderRead::Header(h) => {
+            let rest = ndp_option_header::behind_header(input);
+            tell(
+                6,
+                0,
+                h.option_type.0 as u64,
+                h.length_units.0 as u64,
+                h.byte_len() as u64,
+                numbers::place_of(input, rest),
+                rest.len() as u64,
+            )
+        }
+        HeaderRead::Refused(why) => numbers::refused(why),
+    }
+}
+
+pub(crate) fn header_bytes(input: &[u8]) -> Told {
+    if input.len() != 2 {
+        return numbers::nothing();
+    }
+    let h = NdpOptionHeader::from_bytes([input[0], input[1]]);
+    let b = h.to_bytes();
+    tell(
+        6,
+        0,
+        h.option_type.0 as u64,
+        h.length_units.0 as u64,
+        h.byte_len() as u64,
+        b[0] as u64,
+        b[1] as u64,
+    )
+}
+
+fn information_told(p: PrefixInformation) -> Told {
+    let b = p.prefix;
+    Told {
+        count: 10,
+        values: [
+            0,
+            p.prefix_length as u64,
+            numbers::flag(p.on_link),
+            numbers::flag(p.autonomous_address_configuration),
+            p.valid_lifetime as u64,
+            p.preferred_lifetime as u64,
+            numbers::long(b[0], b[1], b[2], b[3]),
+            numbers::long(b[4], b[5], b[6], b[7]),
+            numbers::long(b[8], b[9], b[10], b[11]),
+            numbers::long(b[12], b[13], b[14], b[15]),
+            0,
+            0,
+        ],
+    }
+}
+
+fn prefix_told(read: PrefixInformationRead) -> Told {
+    let answer = read.answer;
+    match answer {
+        NdpOptionRead::Refused(why) => numbers::refused(why),
+        NdpOptionRead::Accepted => information_told(read.information),
+    }
+}
+
+pub(crate) fn prefix_from_slice(input: &[u8]) -> Told {
+    prefix_told(PrefixInformation::from_slice(input))
+}
+
+// The bytes of a slice from a place on, and 0 past its end.
+fn bytes_from(s: &[u8], place: usize) -> [u8; 32] {
+    let mut bytes = [0; 32];
+    let mut i: usize = 0;
+    while i < 32 {
+        bytes[i] = byte_at(s, std::num::wrapping_add_usize(place, i));
+        i = i + 1;
+    }
+    bytes
+}
+
+fn byte_at(s: &[u8], i: usize) -> u8 {
+    if i < s.len() { s[i] } else { 0 }
+}
+
+pub(crate) fn prefix_from_bytes(input: &[u8]) -> Told {
+    prefix_told(PrefixInformation::from_bytes(bytes_from(input, 0)))
+}
+
+// Prefix length, both flags, both lifetimes, the prefix: 27 bytes.
+fn information_of(v: &[u8]) -> PrefixInformation {
+    let b = bytes_from(v, 0);
+    let p = bytes_from(v, 11);
+    PrefixInformation {
+        prefix_length: b[0],
+        on_link: b[1] != 0,
+        autonomous_address_configuration: b[2] != 0,
+        valid_lifetime: wire::u32_from_be(b[3], b[4], b[5], b[6]),
+        preferred_lifetime: wire::u32_from_be(b[7], b[8], b[9], b[10]),
+        prefix: [
+            p[0],
+            p[1],
+            p[2],
+            p[3],
+            p[4],
+            p[5],
+            p[6],
+            p[7],
+            p[8],
+            p[9],
+            p[10],
+            p[11],
+            p[12],
+            p[13],
+            p[14],
+            p[15],
+        ],
+    }
+}
+
+// The first byte is told as 0: the vectors leave it out.
+pub(crate) fn prefix_to_bytes(input: &[u8]) -> Told {
+    let p = information_of(input);
+    let b = p.to_bytes();
+    Told {
+        count: 9,
+        values: [
+            0,
+            numbers::long(0, b[1], b[2], b[3]),
+            numbers::long(b[4], b[5], b[6], b[7]),
+            numbers::long(b[8], b[9], b[10], b[11]),
+            numbers::long(b[12], b[13], b[14], b[15]),
+            numbers::long(b[16], b[17], b[18], b[19]),
+            numbers::long(b[20], b[21], b[22], b[23]),
+            numbers::long(b[24], b[25], b[26], b[27]),
+            numbers::long(b[28], b[29], b[30], b[31]),
+            0,
+            0,
+            0,
+        ],
+    }
+}
+
+pub(crate) fn mtu(input: &[u8]) -> Told {
+    match MtuOption::from_slice(input) {
+        MtuOption::Mtu(mtu) => tell(3, 0, 5, mtu as u64, 0, 0, 0),
+        MtuOption::Refused(why) => numbers::refused(why),
+    }
+}
+
+pub(crate) fn redirected_header(input: &[u8]) -> Told {
+    match redirected_header_option::from_slice(input) {
+        NdpOptionRead::Accepted => {
+            let packet = redirected_header_option::redirected_packet(input);
+            tell(
+                4,
+                0,
+                4,
+                numbers::place_of(input, packet),
+                packet.len() as u64,
+                0,
+                0,
+            )
+        }
+        NdpOptionRead::Refused(why) => numbers::refused(why),
+    }
+}

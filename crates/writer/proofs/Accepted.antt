@@ -1,0 +1,71 @@
+-- What the writer accepts has passed every test: from a length that is answered follows what the theorems on what is sent ask.
+-- Assumes nothing.
+use Prim.Native.Nat.{ℕ, _+_, _<_, _≤_}
+use native.Mathlib.Omega.{arith}
+use native.Mathlib.Decide.{decLe}
+use mathlib.Core.Bool.{Bool, true, false, cond}
+use mathlib.Core.Path.{_≡_, refl, sym, ap, _∙_}
+use mathlib.Core.List.{List, [], _∷_}
+use lib.Dec.{eqb, ltb, lit<}
+use lib.ListN.{length, drop}
+use borrow.Author.Tests.{ltb-false, le-ltb, lt-ltb, ne-eqb}
+use Rattle.paper.specs.Paper.{Paper, refuses, gives}
+use Rattle.icmpv6_type.specs.declared.Icmpv6Type.{Icmpv6Type}
+use Rattle.icmpv6_type.specs.Value.{kindNumber, typeNumber, codeNumber}
+use Rattle.icmpv6_type.specs.Reserved.{misnamed}
+use Rattle.icmpv6_payload_slice.specs.Dispatch.{fixedOf, byValue}
+use Rattle.icmpv6_payload_slice.proofs.Laws.{short, whole}
+use Rattle.ndp_walk.specs.Walk.{Ending, Clean, RefusedAt}
+use Rattle.ndp_walk.proofs.Judging.{refusal-numbered}
+use Rattle.ndp_walk.proofs.Laws.{refused-there}
+use Rattle.ndp_options.specs.Rule.{rule}
+use Rattle.ndp_options.specs.Walk.{walk}
+use Rattle.ndp_options.proofs.Rule.{numbered}
+use Rattle.ndp_option_list.specs.Whole.{countOf, endBy}
+use Rattle.output.specs.Output.{roomFor}
+use Rattle.output.proofs.Laws.{no-room}
+use Rattle.writer.specs.Write.{_orElse_, optionsOf, sendableOf, writeOf}
+
+pub record Accepted (t : Icmpv6Type) (s out : List ℕ) : Type 0 where
+  pub named : misnamed t ≡ false
+  pub within : length s ≤ 65527
+  pub present : fixedOf (kindNumber t) ≤ length s
+  pub walks : walk (optionsOf t s) .ending ≡ Clean
+  pub room : 8 + length s ≤ length out
+
+-- a number that refuses is none of an answer
+never : {A : Type 0} {p : Paper} {v : List ℕ} → 0 < p .number → p ≡ gives v → A
+never h q = absurd (let z = ap (λ (x : Paper). x .number) q in omega arith)
+
+module _ (t : Icmpv6Type) (s out v : List ℕ) where
+  -- the last test
+  last : roomFor (8 + length s) out ≡ gives v → 8 + length s ≤ length out
+  last q = elim (decLe (8 + length s) (length out)) [
+    | yes h ↦ h
+    | no h ↦ never (lit< tt) (sym (no-room (8 + length s) out (omega arith)) ∙ q)
+  ]
+
+  -- the walk
+  walked : (e : Ending) → walk (optionsOf t s) .ending ≡ e → ((endBy e (gives (length (walk (optionsOf t s) .items) ∷ [])) .paper orElse gives []) orElse roomFor (8 + length s) out) ≡ gives v → (walk (optionsOf t s) .ending ≡ Clean) × (8 + length s ≤ length out)
+  walked Clean e q = (e, last q)
+  walked (RefusedAt at why) e q =
+      let n = refusal-numbered rule numbered (drop at (optionsOf t s)) (refused-there rule (optionsOf t s) e .0) in
+      let some = ne-eqb (why .number) 0 (λ z. omega arith) in
+      let first : ((why orElse gives []) orElse roomFor (8 + length s) out) ≡ why = simp some in
+      never {p = why} n (sym first ∙ q)
+
+  pub accepted : writeOf t s out ≡ gives v → Accepted t s out
+  unfolding sendableOf
+  accepted = by (misnamed t) (ltb 65527 (length s)) refl refl
+    where
+      by : (a b : Bool) → misnamed t ≡ a → ltb 65527 (length s) ≡ b →
+          (cond a (refuses 10 (typeNumber t ∷ codeNumber t ∷ [])) (cond b (refuses 3 (65527 ∷ length s ∷ [])) (byValue t s orElse (countOf (optionsOf t s) .paper orElse gives []))) orElse roomFor (8 + length s) out) ≡ gives v →
+          Accepted t s out
+      by true b e f q = never {p = refuses 10 (typeNumber t ∷ codeNumber t ∷ [])} (lit< tt) q
+      by false true e f q = never {p = refuses 3 (65527 ∷ length s ∷ [])} (lit< tt) q
+      by false false e f q = elim (decLe (fixedOf (kindNumber t)) (length s)) [
+        | yes h ↦
+            let w = walked (walk (optionsOf t s) .ending) refl (rw (whole (kindNumber t) s h) at q) in
+            record { named = e; within = ltb-false 65527 (length s) f; present = h; walks = w .0; room = w .1 }
+        | no h ↦ never {p = refuses 4 (fixedOf (kindNumber t) ∷ length s ∷ [])} (lit< tt) (rw (short (kindNumber t) s (omega arith)) at q)
+      ]

@@ -1,0 +1,61 @@
+-- The order of the writer's tests and what it leaves in the output, by computation: one table, one statement. A writer that writes nothing fails
+-- the first case.
+-- Assumes nothing.
+use Prim.Native.Nat.{ℕ}
+use mathlib.Core.Path.{_≡_, refl}
+use mathlib.Core.List.{List, [], _∷_, _++_, map}
+use lib.ListN.{replicate}
+use Rattle.paper.specs.Paper.{Paper}
+use Rattle.message_table.specs.Table.{known, fixedPart}
+use Rattle.icmpv6_type.specs.declared.Icmpv6Type.{Icmpv6Type}
+use Rattle.icmpv6_type.specs.declared.Icmpv6Type.the-variants.{Unknown, RouterSolicitation, NeighborSolicitation}
+use Rattle.checksum.specs.Ones.{_⊕_}
+use Rattle.checksum.specs.Icmpv6.{sumOf, checksumOf}
+use Rattle.checksum.proofs.Cases.{router, everyone}
+use Rattle.icmpv6_payload_slice.specs.Dispatch.{payloadOf}
+use Rattle.ndp_walk.specs.Judge.{judge}
+use Rattle.ndp_walk.specs.Walk.{walkOn, walkFrom}
+use Rattle.ndp_options.specs.Rule.{rule}
+use Rattle.output.specs.Output.{roomFor, leaves}
+use Rattle.writer.specs.Write.{sendableOf, packetOf, writeOf}
+
+pub record Case : Type 0 where
+  pub got : List ℕ
+  pub wanted : List ℕ
+
+abbrev zeros : ℕ → List ℕ
+zeros n = replicate n 0
+
+-- number and values of the answer, then the output
+abbrev written : Icmpv6Type → List ℕ → List ℕ → List ℕ
+written t payload out =
+    let answer = writeOf t payload out in
+    answer .number ∷ (answer .values ++ leaves answer (packetOf router everyone t payload) out)
+
+abbrev case : List ℕ → List ℕ → Case
+case got wanted = record { got = got; wanted = wanted }
+
+-- an option of type 1 in one unit, as in the first packet of document 01's listing
+abbrev option : List ℕ
+option = 1 ∷ 1 ∷ 2 ∷ 0 ∷ 0 ∷ 0 ∷ 0 ∷ 1 ∷ []
+
+abbrev pub cases : List Case
+cases =
+    -- that packet, with one byte behind it that stays
+    case (written RouterSolicitation option (zeros 16 ++ 9 ∷ [])) (0 ∷ 16 ∷ (133 ∷ 0 ∷ 0x7a ∷ 0x2c ∷ 0 ∷ 0 ∷ 0 ∷ 0 ∷ option ++ 9 ∷ []))
+    -- refusal 10, before 4 and 9; another code of the type is written as it stands
+    ∷ case (written (Unknown 135 0 7) [] []) (10 ∷ 135 ∷ 0 ∷ [])
+    ∷ case (written (Unknown 135 1 7) [] []) (9 ∷ 8 ∷ [])
+    -- refusal 4, before 9
+    ∷ case (written NeighborSolicitation (zeros 15) (9 ∷ [])) (4 ∷ 16 ∷ 15 ∷ 9 ∷ [])
+    -- refusals 6, 7 and 5 of the walk, before 9
+    ∷ case (written RouterSolicitation (1 ∷ 0 ∷ []) (9 ∷ [])) (6 ∷ 1 ∷ 9 ∷ [])
+    ∷ case (written NeighborSolicitation (zeros 16 ++ 1 ∷ 2 ∷ zeros 6) (9 ∷ [])) (7 ∷ 1 ∷ 16 ∷ 8 ∷ 9 ∷ [])
+    ∷ case (written RouterSolicitation (option ++ 1 ∷ []) (9 ∷ [])) (5 ∷ 1 ∷ 2 ∷ 1 ∷ 9 ∷ [])
+    -- refusal 9
+    ∷ case (written RouterSolicitation option (zeros 15)) (9 ∷ 16 ∷ zeros 15)
+    ∷ []
+
+pub right : map (λ (k : Case). k .got) cases ≡ map (λ (k : Case). k .wanted) cases
+unfolding sendableOf payloadOf roomFor known fixedPart sumOf checksumOf _⊕_ judge rule walkOn walkFrom
+right = refl

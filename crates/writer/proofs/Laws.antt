@@ -1,0 +1,128 @@
+-- The cases of what the writer tests before the output, in document 01's order, and what each answer of a callee says there.
+-- Assumes nothing.
+use Prim.Native.Nat.{ℕ, _+_, _<_, _≤_}
+use native.Mathlib.Omega.{arith}
+use native.Mathlib.Decide.{decLe}
+use mathlib.Core.Bool.{Bool, true, false, cond}
+use mathlib.Core.Path.{_≡_, refl, sym, ap, _∙_}
+use mathlib.Core.List.{List, [], _∷_}
+use lib.Dec.{eqb, ltb}
+use lib.ListN.{length, getD, drop}
+use borrow.Author.Tests.{lt-ltb, le-ltb, ltb-false}
+use Rattle.paper.specs.Paper.{Paper, refuses, gives}
+use Rattle.refusal.specs.declared.Refusal.{Refusal}
+use Rattle.refusal.specs.Paper.{refusal}
+use Rattle.refusal.proofs.Paper.{refusal-numbered}
+use Rattle.message_table.specs.Table.{known}
+use Rattle.icmpv6_type.specs.declared.Icmpv6Type.{Icmpv6Type}
+use Rattle.icmpv6_type.specs.declared.Icmpv6Type.the-variants.{Unknown, DestinationUnreachable, PacketTooBig, TimeExceeded, ParameterProblem, EchoRequest, EchoReply, RouterSolicitation, RouterAdvertisement, NeighborSolicitation, NeighborAdvertisement, Redirect}
+use Rattle.icmpv6_type.specs.Value.{kindNumber, typeNumber, codeNumber}
+use Rattle.icmpv6_type.specs.Reserved.{misnamed}
+use Rattle.icmpv6_payload_slice.specs.declared.Icmpv6PayloadKind.{Icmpv6PayloadKind}
+use Rattle.icmpv6_payload_slice.specs.Dispatch.{fixedOf, kindOf, kindTold, payloadOf, byValue}
+use Rattle.icmpv6_payload_slice.specs.Dispatch as dispatch
+use Rattle.icmpv6_payload_slice.specs.Parts.{optionsPart}
+use Rattle.icmpv6_payload_slice.proofs.Laws.{short, whole}
+use Rattle.ndp_walk.specs.Step.{Told, told}
+use Rattle.ndp_option_list.specs.Whole.{countOf}
+use Rattle.writer.specs.Write.{_orElse_, optionsOf, sendableOf, writeOf}
+use Rattle.output.specs.Output.{leaves}
+use Rattle.output.proofs.Laws.{no-room, room}
+
+-- an Unknown is told by its kind
+pub misnamed-is : (t : Icmpv6Type) → misnamed t ≡ cond (eqb (kindNumber t) 0) (known (typeNumber t) (codeNumber t)) false
+misnamed-is (Unknown k c w) = refl
+misnamed-is (DestinationUnreachable c) = refl
+misnamed-is (PacketTooBig mtu) = refl
+misnamed-is (TimeExceeded c) = refl
+misnamed-is (ParameterProblem h) = refl
+misnamed-is (EchoRequest h) = refl
+misnamed-is (EchoReply h) = refl
+misnamed-is RouterSolicitation = refl
+misnamed-is (RouterAdvertisement h) = refl
+misnamed-is NeighborSolicitation = refl
+misnamed-is (NeighborAdvertisement h) = refl
+misnamed-is Redirect = refl
+
+-- a value is dispatched to its own kind
+kind-kept : (t : Icmpv6Type) (s : List ℕ) → getD (kindOf (kindNumber t) s) 0 0 ≡ kindNumber t
+unfolding known
+kind-kept (Unknown k c w) s = refl
+kind-kept (DestinationUnreachable c) s = refl
+kind-kept (PacketTooBig mtu) s = refl
+kind-kept (TimeExceeded c) s = refl
+kind-kept (ParameterProblem h) s = refl
+kind-kept (EchoRequest h) s = refl
+kind-kept (EchoReply h) s = refl
+kind-kept RouterSolicitation s = refl
+kind-kept (RouterAdvertisement h) s = refl
+kind-kept NeighborSolicitation s = refl
+kind-kept (NeighborAdvertisement h) s = refl
+kind-kept Redirect s = refl
+
+-- an answer that refuses is the first of two, and one that does not gives way
+pub refused-first : (why : Refusal) (b : Paper) → (refusal why orElse b) ≡ refusal why
+refused-first why b = rw (refusal-numbered why)
+
+module _ (t : Icmpv6Type) (s : List ℕ) where
+  pub known-pair : misnamed t ≡ true → sendableOf t s ≡ refuses 10 (typeNumber t ∷ codeNumber t ∷ [])
+  unfolding sendableOf
+  known-pair e = rw e
+
+  module _ (named : misnamed t ≡ false) where
+    pub long : 65527 < length s → sendableOf t s ≡ refuses 3 (65527 ∷ length s ∷ [])
+    unfolding sendableOf
+    long h = rw (named, lt-ltb 65527 (length s) h)
+
+    module _ (some : length s ≤ 65527) where
+      rest : sendableOf t s ≡ (byValue t s orElse (countOf (optionsOf t s) .paper orElse gives []))
+      unfolding sendableOf
+      rest = rw (named, le-ltb 65527 (length s) some)
+
+      -- refusal 4
+      pub no-fixed-part : (why : Refusal) → refusal why ≡ byValue t s → sendableOf t s ≡ refusal why
+      no-fixed-part why e = rest ∙ rw (← e) (refused-first why _)
+
+      -- the fixed part is there: the walk of the options decides
+      module _ (at : ℕ) (kind : Icmpv6PayloadKind) (given : gives (at ∷ kindTold kind) ≡ byValue t s) (n : ℕ) where
+        pub no-clean-walk : (why : Refusal) → told (refusal why) n ≡ countOf (optionsOf t s) → sendableOf t s ≡ refusal why
+        no-clean-walk why e = rest ∙ rw (← given, ← e) (refused-first why _)
+
+        pub clean : told (gives (n ∷ [])) 0 ≡ countOf (optionsOf t s) → sendableOf t s ≡ gives []
+        clean e = rest ∙ rw (← given, ← e)
+
+  -- what was dispatched says where the options are
+  pub dispatched : (at : ℕ) (kind : Icmpv6PayloadKind) → gives (at ∷ kindTold kind) ≡ byValue t s → optionsPart (dispatch.kindNumber kind) at s ≡ optionsOf t s
+  dispatched at kind e = elim (decLe (fixedOf (kindNumber t)) (length s)) [
+    | yes h ↦
+        let q = e ∙ whole (kindNumber t) s h in
+        let place : at ≡ fixedOf (kindNumber t) = ap (λ (p : Paper). getD (p .values) 0 0) q in
+        let own : dispatch.kindNumber kind ≡ kindNumber t = ap (λ (p : Paper). getD (p .values) 1 0) q ∙ kind-kept t s in
+        rw (place, own)
+    | no h ↦ absurd (let z = ap (λ (p : Paper). p .number) (e ∙ short (kindNumber t) s (omega arith)) in omega arith)
+  ]
+
+  -- what passed every test is within the limit
+  pub within : gives [] ≡ sendableOf t s → length s ≤ 65527
+  unfolding sendableOf
+  within = by (misnamed t) (ltb 65527 (length s)) refl
+    where
+      by : (a b : Bool) → ltb 65527 (length s) ≡ b → gives [] ≡ cond a (refuses 10 (typeNumber t ∷ codeNumber t ∷ [])) (cond b (refuses 3 (65527 ∷ length s ∷ [])) (byValue t s orElse (countOf (optionsOf t s) .paper orElse gives []))) → length s ≤ 65527
+      by true b f q = absurd (let z : _≡_ {A = ℕ} 0 10 = ap (λ (p : Paper). p .number) q in omega arith)
+      by false true f q = absurd (let z : _≡_ {A = ℕ} 0 3 = ap (λ (p : Paper). p .number) q in omega arith)
+      by false false f q = ltb-false 65527 (length s) f
+
+-- and then the output
+module _ (t : Icmpv6Type) (s out : List ℕ) where
+  pub refused-write : (why : Refusal) → refusal why ≡ sendableOf t s → writeOf t s out ≡ refusal why
+  refused-write why e = rw (← e) (refused-first why _)
+
+  module _ (passed : gives [] ≡ sendableOf t s) where
+    pub narrow : length out < 8 + length s → writeOf t s out ≡ refuses 9 ((8 + length s) ∷ [])
+    narrow h = rw (← passed) (no-room (8 + length s) out h)
+
+    pub fitting : 8 + length s ≤ length out → writeOf t s out ≡ gives ((8 + length s) ∷ [])
+    fitting h = rw (← passed) (room (8 + length s) out h)
+
+pub refused-leaves : (why : Refusal) (bytes out : List ℕ) → out ≡ leaves (refusal why) bytes out
+refused-leaves why bytes out = rw (refusal-numbered why)

@@ -1,0 +1,7 @@
+pub mod Laws
+pub mod Sealed
+pub mod Bytes
+pub mod Sent
+pub mod Accepted
+pub mod Cases
+pub mod Unique

@@ -1,0 +1,13 @@
+-- The writer's promise leaves one answer and one content of the output.
+-- Assumes nothing.
+use Prim.Native.Nat.{ℕ}
+use mathlib.Core.Path.{sym, ap, _∙_}
+use mathlib.Core.List.{List}
+use Rattle.paper.specs.Only.{Only}
+use Rattle.paper.proofs.Facts.{two}
+use Rattle.output.proofs.Paper.{written-lossless}
+use Rattle.writer.proofs.write_packet as write-packet
+
+pub write-packet-unique : Only write-packet.ended (λ M 𝓤. write-packet.clauses 𝓤)
+write-packet-unique M 𝓤 H A m f κs a g x y v w =
+    two 𝓤 (λ p out q out′. (written-lossless x y (p ∙ sym q), ap (λ (l : List ℕ). (tt, (tt, (tt, (tt, (l, tt)))))) (out ∙ sym out′)))

@@ -1,0 +1,101 @@
+-- `check` meets its contract: each test is the definition's, in its order, and each answer of a callee is a case of it.
+-- Assumes nothing.
+use Prim.Native.Nat.{ℕ}
+use mathlib.Core.List.{List}
+use mathlib.Core.Path.{_≡_, sym, ap, _∙_}
+use denote.Ref.{now}
+use Rattle.ndp_option_list.specs.Whole.{countOf}
+use Rattle.ndp_option_list.specs.Told.{countTold}
+use Rattle.icmpv6_payload_slice.specs.Dispatch.{readTold}
+use Rattle.writer.proofs.Laws.{known-pair, long, no-fixed-part, no-clean-walk, clean, dispatched}
+use borrow.Author.Needs.{needs}
+use Rattle.writer.proofs.check.Statement.{statement}
+use Rattle.writer.proofs.check.Tie as tie
+
+names-known-pair-requires : tie.Need-names-known-pair-requires
+names-known-pair-requires c κs = search needs
+
+type-u8-requires : tie.Need-type-u8-requires
+type-u8-requires c κs = search needs
+
+code-u8-requires : tie.Need-code-u8-requires
+code-u8-requires c κs = search needs
+
+returns : tie.Need-returns
+returns c = let n = c .before .before .before in
+    let a = n .before .before .args in
+    rw (c .before .type-u8 .ensures, c .code-u8 .ensures) (sym (known-pair (a .icmp-type) (now (a .payload)) (sym (n .names-known-pair .ensures) ∙ c .before .before .if1 .taken)))
+
+returns-2 : tie.Need-returns-2
+returns-2 c = let n = c .before .before in
+    let a = n .before .before .args in
+    sym (long (a .icmp-type) (now (a .payload)) (sym (n .names-known-pair .ensures) ∙ c .before .if1 .left) (c .if2 .taken))
+
+from-slice-requires : tie.Need-from-slice-requires
+from-slice-requires c κs = search needs
+
+enum-known-why : tie.Need-enum-known-why
+enum-known-why c = search needs
+
+enum-known-part : tie.Need-enum-known-part
+enum-known-part c = search needs
+
+options-requires : tie.Need-options-requires
+options-requires c κs = search needs
+
+count-requires : tie.Need-count-requires
+count-requires c κs = search needs
+
+enum-told : tie.Need-enum-told
+enum-told c = search needs
+
+enum-known-why-2 : tie.Need-enum-known-why-2
+enum-known-why-2 c = search needs
+
+returns-3 : tie.Need-returns-3
+returns-3 c = let f = c .before .before .before in
+    let n = f .before .before .before in
+    let a = n .before .before .args in
+    sym (no-fixed-part (a .icmp-type) (now (a .payload)) (sym (n .names-known-pair .ensures) ∙ f .before .before .if1 .left) (f .before .if2 .left) (c .before .why .given .0 .0) (ap readTold (sym (c .before .why .given .1)) ∙ f .from-slice .ensures))
+
+returns-4 : tie.Need-returns-4
+returns-4 c = let k = c .before .before in
+    let p = k .before .before .before in
+    let f = p .before .before in
+    let n = f .before .before .before in
+    let a = n .before .before .args in
+    let part = p .part .given .0 .0 in
+    let given = ap readTold (sym (p .part .given .1)) ∙ f .from-slice .ensures in
+    let there = k .before .options .ensures ∙ dispatched (a .icmp-type) (now (a .payload)) (part .«options_at») (part .kind) given in
+    sym (clean (a .icmp-type) (now (a .payload)) (sym (n .names-known-pair .ensures) ∙ f .before .before .if1 .left) (f .before .if2 .left) (part .«options_at») (part .kind) given (c .enum-told .given .0 .0) (ap countTold (sym (c .enum-told .given .1)) ∙ k .count .ensures ∙ ap countOf there))
+
+returns-5 : tie.Need-returns-5
+returns-5 c = let k = c .before .before .before in
+    let p = k .before .before .before in
+    let f = p .before .before in
+    let n = f .before .before .before in
+    let a = n .before .before .args in
+    let part = p .part .given .0 .0 in
+    let given = ap readTold (sym (p .part .given .1)) ∙ f .from-slice .ensures in
+    let there = k .before .options .ensures ∙ dispatched (a .icmp-type) (now (a .payload)) (part .«options_at») (part .kind) given in
+    sym (no-clean-walk (a .icmp-type) (now (a .payload)) (sym (n .names-known-pair .ensures) ∙ f .before .before .if1 .left) (f .before .if2 .left) (part .«options_at») (part .kind) given (c .before .why2 .given .0 .1 .0) (c .before .why2 .given .0 .0) (ap countTold (sym (c .before .why2 .given .1)) ∙ k .count .ensures ∙ ap countOf there))
+
+pub check-spec : {M : Type 1} → statement M
+check-spec =
+    tie.close
+    (tie.spec
+    names-known-pair-requires
+    type-u8-requires
+    code-u8-requires
+    returns
+    returns-2
+    from-slice-requires
+    enum-known-why
+    enum-known-part
+    options-requires
+    count-requires
+    enum-told
+    enum-known-why-2
+    returns-3
+    returns-4
+    returns-5)

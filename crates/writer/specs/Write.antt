@@ -1,0 +1,54 @@
+-- Document 01, "Numbers a refusal carries": the writer tests 10, 3, then 4 and 5 to 8, then 9; it writes the head with the computed checksum,
+-- then the payload, and answers the length.
+-- Assumes nothing.
+use Prim.Native.Nat.{ℕ, _+_}
+use mathlib.Core.Bool.{cond}
+use mathlib.Core.List.{List, [], _∷_, _++_}
+use lib.Dec.{ltb, eqb}
+use lib.ListN.{length}
+use Rattle.paper.specs.Paper.{Paper, refuses, gives}
+use Rattle.refusal.specs.Paper.{refusal}
+use Rattle.icmpv6_type.specs.declared.Icmpv6Type.{Icmpv6Type}
+use Rattle.icmpv6_type.specs.Value.{kindNumber, typeNumber, codeNumber}
+use Rattle.icmpv6_type.specs.Reserved.{misnamed}
+use Rattle.icmpv6.specs.Head.{encodeOf}
+use Rattle.checksum.specs.Icmpv6.{checksumOf}
+use Rattle.icmpv6_checksum.specs.Header.{headOf}
+use Rattle.icmpv6_payload_slice.specs.Dispatch.{fixedOf, byValue}
+use Rattle.icmpv6_payload_slice.specs.Parts.{optionsPart}
+use Rattle.ndp_option_list.specs.Whole.{countOf}
+use Rattle.output.specs.Output.{roomFor}
+use Rattle.writer.specs.declared.Sendable.{Sendable}
+use Rattle.writer.specs.declared.Sendable.the-variants.{Yes, Refused}
+
+-- an answer where it refuses, else the next
+infixr 20 _orElse_
+abbrev pub _orElse_ : Paper → Paper → Paper
+a orElse b = cond (eqb (a .number) 0) b a
+
+-- the options behind the fixed part: none unless the value is of types 133 to 137
+abbrev pub optionsOf : Icmpv6Type → List ℕ → List ℕ
+optionsOf t payload = optionsPart (kindNumber t) (fixedOf (kindNumber t)) payload
+
+-- refusals 10 and 3, the dispatch's 4, the walk's 5 to 8
+unfoldable pub sendableOf : Icmpv6Type → List ℕ → Paper
+sendableOf t payload =
+    cond (misnamed t) (refuses 10 (typeNumber t ∷ codeNumber t ∷ []))
+    (cond (ltb 65527 (length payload)) (refuses 3 (65527 ∷ length payload ∷ []))
+    (byValue t payload orElse (countOf (optionsOf t payload) .paper orElse gives [])))
+
+-- and 9, or the length
+abbrev pub writeOf : Icmpv6Type → List ℕ → List ℕ → Paper
+writeOf t payload out = sendableOf t payload orElse roomFor (8 + length payload) out
+
+-- the head with the checksum that is computed for it with its field 0, and the payload
+abbrev pub sealedHead : List ℕ → List ℕ → Icmpv6Type → List ℕ → List ℕ
+sealedHead source destination t payload =
+    encodeOf (record { «icmp_type» = t; checksum = checksumOf source destination (headOf t ++ payload) })
+
+abbrev pub packetOf : List ℕ → List ℕ → Icmpv6Type → List ℕ → List ℕ
+packetOf source destination t payload = sealedHead source destination t payload ++ payload
+
+abbrev pub sendableTold : Sendable → Paper
+sendableTold Yes = gives []
+sendableTold (Refused why) = refusal why

@@ -1,0 +1,105 @@
+// The packet writer (document 01, "Numbers a refusal carries"): a type value, both addresses and a payload, into a lent buffer.
+ghost use mathlib.Core.Path.{_≡_};
+ghost use Prim.Native.Nat.{_≤_};
+ghost use lib.ListN.{length};
+ghost use Rattle.icmpv6_type.specs.Reserved.{misnamed};
+ghost use Rattle.output.specs.Output.{writtenTold, leaves};
+ghost use Rattle.writer.specs.Write.{sendableTold, sendableOf, sealedHead, packetOf, writeOf};
+use icmpv6_checksum::HeaderMade;
+use icmpv6_payload_slice::Icmpv6PayloadSlice;
+use icmpv6_payload_slice::PayloadRead;
+use icmpv6_type::Icmpv6Type;
+use ndp_option_list::Counted;
+use output::Written;
+use refusal::Refusal;
+
+// What an IPv6 packet without a jumbo option leaves after the head.
+pub const MAX_PAYLOAD_LEN: usize = 65527;
+
+// Whether a value and a payload make a packet, whatever the output.
+enum Sendable {
+    Yes,
+    Refused(Refusal),
+}
+
+// Whether a value is an Unknown that names a pair which the decoder knows.
+fn names_known_pair(icmp_type: Icmpv6Type) -> bool
+    ensures { λ r. ⌜ r ≡ misnamed «icmp_type» ⌝ }
+{
+    if icmp_type.kind_u8() == 0 {
+        message_table::is_known(icmp_type.type_u8(), icmp_type.code_u8())
+    } else {
+        false
+    }
+}
+
+// Refusals 10, 3, 4, and 5 to 8, in this order. A kind without a fixed part lacks none of it, and one without options walks clean.
+fn check(icmp_type: Icmpv6Type, payload: &[u8]) -> Sendable
+    ensures { λ r. ⌜ sendableTold r ≡ sendableOf «icmp_type» (now (payload .entry)) ⌝ }
+{
+    if names_known_pair(icmp_type) {
+        return Sendable::Refused(Refusal::KnownPair {
+            kind: icmp_type.type_u8(),
+            code: icmp_type.code_u8(),
+        });
+    }
+    let length = payload.len();
+    if MAX_PAYLOAD_LEN < length {
+        return Sendable::Refused(Refusal::LongPayload {
+            limit: MAX_PAYLOAD_LEN,
+            length,
+        });
+    }
+    match Icmpv6PayloadSlice::from_slice(icmp_type, payload) {
+        PayloadRead::Refused(why) => Sendable::Refused(why),
+        PayloadRead::Payload(part) => {
+            match ndp_option_list::count(part.options(payload)) {
+                Counted::All(_) => Sendable::Yes,
+                Counted::Refused(why, _) => Sendable::Refused(why),
+            }
+        }
+    }
+}
+
+// The eight bytes of the head with the computed checksum.
+fn sealed_head(
+    icmp_type: Icmpv6Type,
+    source: &[u8; 16],
+    destination: &[u8; 16],
+    payload: &[u8],
+) -> [u8; 8]
+    requires { ⌜ length (now payload) ≤ 65527 ⌝ }
+    ensures { λ r. ⌜ r ≡ sealedHead (now (source .entry)) (now (destination .entry)) «icmp_type» (now (payload .entry)) ⌝ }
+{
+    match icmpv6_checksum::with_checksum(icmp_type, payload, source, destination) {
+        HeaderMade::Header(header) => header.to_bytes(),
+        // Never: the payload is within the sum's limit.
+        HeaderMade::Refused(_) => [0; 8],
+    }
+}
+
+// Writes a packet at the start of the output and answers its length; a refusal leaves every byte as it was.
+pub fn write_packet(
+    icmp_type: Icmpv6Type,
+    source: &[u8; 16],
+    destination: &[u8; 16],
+    payload: &[u8],
+    out: &mut [u8],
+) -> Written
+    ensures answers { λ r. ⌜ writtenTold r ≡ writeOf «icmp_type» (now (payload .entry)) (now (out .entry)) ⌝ }
+    ensures lent { λ r. ⌜ now (out .exit) ≡ leaves (writeOf «icmp_type» (now (payload .entry)) (now (out .entry))) (packetOf (now (source .entry)) (now (destination .entry)) «icmp_type» (now (payload .entry))) (now (out .entry)) ⌝ }
+{
+    match check(icmp_type, payload) {
+        Sendable::Refused(why) => Written::Refused(why),
+        Sendable::Yes => {
+            let needed = 8 + payload.len();
+            if out.len() < needed {
+                return Written::Refused(Refusal::ShortOutput { needed });
+            }
+            let head = sealed_head(icmp_type, source, destination, payload);
+            output::put_at(out, 0, &head);
+            output::put_at(out, 8, payload);
+            Written::Length(needed)
+        }
+    }
+}

@@ -1,0 +1,106 @@
+/* Prints the prefixes of the router advertisements in a capture, each only after its whole option list was read.
+ *
+ *     prefixes [FILE]        reads standard input without FILE
+ *
+ * A capture is a row of records: 49 36, hop limit, source (16 bytes), destination (16), packet length (2, high byte first), packet. */
+#include "brothladder.h"
+#include <stdio.h>
+
+enum { LONGEST_PACKET = 2048, MOST_PREFIXES = (LONGEST_PACKET - 16) / 32 };
+
+struct message {
+    uint8_t hop_limit, source[16], destination[16];
+    uint8_t packet[LONGEST_PACKET];
+    size_t length;
+};
+
+/* What is noted of a message until its list is known to be whole. */
+struct noted {
+    struct brothladder_prefix prefixes[MOST_PREFIXES];
+    size_t count;
+};
+
+/* The walk. Returns 0 at the end of the list, and -1 where what is noted must be forgotten. */
+static int note_options(const uint8_t *options, size_t length, struct noted *noted) {
+    size_t at = 0;
+    noted->count = 0;
+    for (;;) {
+        struct brothladder_stepped s = brothladder_step(options, length, at);
+        switch (s.answer) {
+        case BROTHLADDER_OPTION:
+            if (s.kind == BROTHLADDER_KIND_PREFIX_INFORMATION) {
+                struct brothladder_prefix p = brothladder_read_prefix(options + s.at, s.length);
+                if (p.answer != BROTHLADDER_PREFIX || noted->count == MOST_PREFIXES) return -1;
+                noted->prefixes[noted->count++] = p;
+            }
+            at = s.next;
+            continue;
+        case BROTHLADDER_END:
+            return 0;
+        default: /* BROTHLADDER_REFUSED, BROTHLADDER_STOPPED: half a list */
+            return -1;
+        }
+    }
+}
+
+static void print_prefix(const struct brothladder_prefix *p) {
+    printf("  prefix ");
+    for (int i = 0; i < 16; i += 2) printf("%s%x", i ? ":" : "", p->prefix[i] * 256 + p->prefix[i + 1]);
+    printf("/%u%s%s valid %u preferred %u\n", (unsigned)p->prefix_length, p->on_link ? " on-link" : "", p->autonomous ? " autonomous" : "",
+           (unsigned)p->valid_lifetime, (unsigned)p->preferred_lifetime);
+}
+
+/* One message: the receive check, then the walk, then the act. */
+static void handle(const struct message *m) {
+    static struct noted noted;
+    struct brothladder_received r = brothladder_receive(m->packet, m->length, m->hop_limit, m->source, m->destination);
+    if (r.answer != BROTHLADDER_RECEIVED) {
+        printf("refused %u", (unsigned)r.refusal);
+        if (r.refusal == BROTHLADDER_REFUSAL_NOT_RECEIVED) printf(" reason %u", (unsigned)r.value[0]);
+        printf("\n");
+        return;
+    }
+    struct brothladder_head h = brothladder_decode(m->packet, m->length);
+    if (h.answer != BROTHLADDER_KNOWN || h.type != BROTHLADDER_TYPE_ROUTER_ADVERTISEMENT) {
+        printf("received, no advertisement\n");
+        return;
+    }
+    if (note_options(m->packet + r.options_at, r.options_length, &noted) != 0) {
+        printf("advertisement left alone\n");
+        return;
+    }
+    printf("advertisement, router lifetime %u\n", (unsigned)h.field[BROTHLADDER_FIELD_LIFETIME]);
+    for (size_t i = 0; i < noted.count; i++) print_prefix(&noted.prefixes[i]);
+}
+
+/* The next record. Returns 1, 0 at the end of the capture, and -1 where it is cut or is none. */
+static int next_message(FILE *capture, struct message *m) {
+    uint8_t head[37];
+    size_t n = fread(head, 1, sizeof head, capture);
+    if (n == 0) return ferror(capture) ? -1 : 0;
+    if (n != sizeof head || head[0] != 0x49 || head[1] != 0x36) return -1;
+    m->hop_limit = head[2];
+    for (int i = 0; i < 16; i++) {
+        m->source[i] = head[3 + i];
+        m->destination[i] = head[19 + i];
+    }
+    m->length = (size_t)head[35] * 256 + head[36];
+    if (m->length > LONGEST_PACKET) return -1;
+    return fread(m->packet, 1, m->length, capture) == m->length ? 1 : -1;
+}
+
+int main(int argc, char **argv) {
+    static struct message m;
+    FILE *capture = argc > 1 ? fopen(argv[1], "rb") : stdin;
+    int got;
+    if (capture == NULL) {
+        perror(argv[1]);
+        return 2;
+    }
+    for (unsigned long n = 1; (got = next_message(capture, &m)) == 1; n++) {
+        printf("%lu ", n);
+        handle(&m);
+    }
+    if (got < 0) fprintf(stderr, "prefixes: the capture is cut short or no capture\n");
+    return got < 0 || fflush(stdout) != 0;
+}

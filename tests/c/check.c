@@ -1,0 +1,74 @@
+#define _GNU_SOURCE
+#include "check.h"
+#include <stdio.h>
+#include <stdlib.h>
+#include <string.h>
+#include <sys/mman.h>
+
+unsigned long passed, failed;
+
+void check(int holds, const char *what, const char *detail) {
+    if (holds) {
+        passed++;
+        return;
+    }
+    if (failed++ < 20) printf("FAILED: %s%s%s\n", what, *detail ? ": " : "", detail);
+}
+
+void same(const char *what, uint64_t got, uint64_t wanted) {
+    char detail[80];
+    snprintf(detail, sizeof detail, "got %llu, wanted %llu", (unsigned long long)got, (unsigned long long)wanted);
+    check(got == wanted, what, detail);
+}
+
+void same_answer(const char *what, const void *got, const void *wanted, size_t size) {
+    char detail[80];
+    size_t i = 0;
+    while (i < size && ((const uint8_t *)got)[i] == ((const uint8_t *)wanted)[i]) i++;
+    snprintf(detail, sizeof detail, "byte %zu of the answer", i);
+    check(i == size, what, detail);
+}
+
+static struct {
+    uint8_t *start, *lent;
+    size_t length;
+    enum side side;
+} rooms[ROOMS];
+
+static const uint8_t guard = 0xa5;
+
+uint8_t *lend(enum room room, enum side side, const uint8_t *bytes, size_t length) {
+    if (rooms[room].start == NULL) {
+        uint8_t *all = mmap(NULL, ROOM_BYTES + 2 * 4096, PROT_NONE, MAP_PRIVATE | MAP_ANONYMOUS, -1, 0);
+        if (all == MAP_FAILED || mprotect(all + 4096, ROOM_BYTES, PROT_READ | PROT_WRITE)) {
+            puts("no memory to lend");
+            exit(2);
+        }
+        rooms[room].start = all + 4096;
+    }
+    uint8_t *p = side == LOW ? rooms[room].start : rooms[room].start + ROOM_BYTES - length;
+    if (length > 0) memcpy(p, bytes, length);
+    memset(side == LOW ? p + length : p - GUARD_BYTES, guard, GUARD_BYTES);
+    rooms[room].lent = p;
+    rooms[room].length = length;
+    rooms[room].side = side;
+    return p;
+}
+
+int stands(enum room room, const uint8_t *bytes, size_t length) {
+    const uint8_t *p = rooms[room].lent;
+    const uint8_t *g = rooms[room].side == LOW ? p + rooms[room].length : p - GUARD_BYTES;
+    for (size_t i = 0; i < GUARD_BYTES; i++)
+        if (g[i] != guard) return 0;
+    return length == rooms[room].length && (length == 0 || memcmp(p, bytes, length) == 0);
+}
+
+uint64_t chance(void) {
+    static uint64_t x = 88172645463325252u;
+    x ^= x << 13;
+    x ^= x >> 7;
+    x ^= x << 17;
+    return x * 2685821657736338717u;
+}
+
+uint32_t below(uint32_t n) { return (uint32_t)((chance() >> 32) * n >> 32); }

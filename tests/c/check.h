@@ -1,0 +1,65 @@
+/* Counted checks, and memory to lend whose edges are watched. */
+#ifndef CHECK_H
+#define CHECK_H
+#include "brothladder.h"
+
+extern unsigned long passed, failed;
+
+/* Counts, and prints the first failures. */
+void check(int holds, const char *what, const char *detail);
+
+/* Numbers that must be the same. */
+void same(const char *what, uint64_t got, uint64_t wanted);
+
+/* Answers that must be the same, number by number: the structs have no hole. */
+void same_answer(const char *what, const void *got, const void *wanted, size_t size);
+
+/* Room for one lent buffer, between two pages that cannot be touched: a byte read or written behind its end (or before its start,
+   for LOW) ends the program. The bytes on its other side are guards. */
+enum side { LOW, HIGH };
+enum room { PACKET, SOURCE, DESTINATION, OUT, ROOMS };
+enum { ROOM_BYTES = 17 * 4096, GUARD_BYTES = 64 };
+
+/* A copy of the bytes in a room, as something to lend. */
+uint8_t *lend(enum room room, enum side side, const uint8_t *bytes, size_t length);
+
+/* Whether the guards of a room stand, and its lent bytes are these. */
+int stands(enum room room, const uint8_t *bytes, size_t length);
+
+/* Numbers by chance, the same at every run. */
+uint64_t chance(void);
+uint32_t below(uint32_t n);
+
+/* A refusal of any call: the structs begin alike. */
+struct refused {
+    uint32_t answer, refusal;
+    uint64_t value[4];
+};
+
+/* Whether an answer is this refusal, and says nothing else. */
+void refuses(const char *what, const void *answer, size_t size, uint32_t number, uint64_t v0, uint64_t v1, uint64_t v2, uint64_t v3);
+
+/* The bytes of a case, written as in document 01. */
+size_t hex(const char *text, uint8_t *bytes);
+
+/* Option bytes that are refused, with the refusal. */
+enum { BAD_OPTIONS = 9 };
+extern const struct bad_option {
+    const char *bytes;
+    uint32_t number;
+    uint64_t value[3];
+} bad_options[BAD_OPTIONS];
+
+extern const uint8_t none[16], router[16], all_routers[16];
+
+/* Counts an answer that chance brought about. */
+void note(uint32_t answer, uint32_t refusal, uint64_t value);
+
+/* Writes what a packet says into some room, by the library and by plain C. */
+enum { LONGEST = 400 };
+void write_again(const uint8_t *packet, size_t n, const uint8_t *source, const uint8_t *destination);
+
+void cases(void);   /* document 01's worked cases, every refusal, edges */
+void writes(void);  /* the packet writer */
+void damaged(void); /* 100,000 packets, random and damaged, beside plain.c */
+#endif

@@ -1,0 +1,11 @@
+/* The calls of brothladder.h, linked and run. The last line counts. */
+#include "check.h"
+#include <stdio.h>
+
+int main(void) {
+    cases();
+    writes();
+    damaged();
+    printf("%lu passed, %lu failed\n", passed, failed);
+    return failed != 0 || passed == 0;
+}

@@ -1,0 +1,266 @@
+/* Plain C that gives the answers of brothladder.h, written from document 01, which the comments quote. */
+#include "plain.h"
+#include <stdbool.h>
+#include <string.h>
+
+static uint32_t number(const uint8_t *p, int bytes) {
+    uint32_t n = 0;
+    for (int i = 0; i < bytes; i++) n = n << 8 | p[i];
+    return n;
+}
+
+/* "Types 1, 3, 4 need a listed code; the others need code 0." How many codes a type has, listed from 0 on. */
+static int codes(int type) {
+    switch (type) {
+    case 1: return 7;
+    case 3: return 2;
+    case 4: return 11;
+    case 2: case 128: case 129: case 133: case 134: case 135: case 136: case 137: return 1;
+    default: return 0;
+    }
+}
+
+/* "After the head 0 bytes for 133, 8 for 134, 16 for 135 and 136, 32 for 137." */
+static size_t fixed_part(int type) {
+    switch (type) {
+    case 134: return 8;
+    case 135: case 136: return 16;
+    case 137: return 32;
+    default: return 0;
+    }
+}
+
+static bool neighbor_discovery(int type) { return 133 <= type && type <= 137; }
+
+/* Refusals 1 and 2; 0 for none. */
+static uint32_t bad_length(size_t length, uint64_t value[4]) {
+    if (length >= 8 && length <= 4294967295u) return 0;
+    value[0] = length < 8 ? 8 : 4294967295u;
+    value[1] = length;
+    return length < 8 ? 1 : 2;
+}
+
+struct brothladder_head plain_decode(const uint8_t *packet, size_t length) {
+    struct brothladder_head h;
+    memset(&h, 0, sizeof h);
+    h.answer = BROTHLADDER_REFUSED;
+    if ((h.refusal = bad_length(length, h.value)) != 0) return h;
+    h.type = packet[0];
+    h.code = packet[1];
+    h.checksum = number(packet + 2, 2);
+    h.answer = h.code < codes(h.type) ? BROTHLADDER_KNOWN : BROTHLADDER_UNKNOWN;
+    if (h.answer == BROTHLADDER_UNKNOWN) {
+        h.field[0] = number(packet + 4, 4);
+        return h;
+    }
+    /* "Those bytes hold: 2 MTU; 4 pointer; 128, 129 identifier and sequence; 134 hop limit, flags (128 M, 64 O), lifetime;
+       136 flags (128 R, 64 S, 32 O)." */
+    switch (h.type) {
+    case 2: case 4:
+        h.field[0] = number(packet + 4, 4);
+        break;
+    case 128: case 129:
+        h.field[0] = number(packet + 4, 2);
+        h.field[1] = number(packet + 6, 2);
+        break;
+    case 134:
+        h.field[0] = packet[4];
+        h.field[1] = packet[5] >> 7;
+        h.field[2] = packet[5] >> 6 & 1;
+        h.field[3] = number(packet + 6, 2);
+        break;
+    case 136:
+        h.field[0] = packet[4] >> 7;
+        h.field[1] = packet[4] >> 6 & 1;
+        h.field[2] = packet[4] >> 5 & 1;
+        break;
+    }
+    return h;
+}
+
+/* "Add as 16-bit words, high byte first; an odd last byte is the high half of a word with 0." */
+static uint64_t words(uint64_t sum, const uint8_t *p, size_t n) {
+    size_t i;
+    for (i = 0; i + 1 < n; i += 2) sum += (uint32_t)p[i] << 8 | p[i + 1];
+    if (i < n) sum += (uint32_t)p[i] << 8;
+    return sum;
+}
+
+static uint32_t folded(uint64_t sum) {
+    while (sum >> 16) sum = (sum & 65535) + (sum >> 16);
+    return (uint32_t)sum;
+}
+
+/* "source, destination, the packet length as 32 bits, 58" */
+static uint64_t pseudo_header(size_t length, const uint8_t *source, const uint8_t *destination) {
+    return words(words(0, source, 16), destination, 16) + (length >> 16) + (length & 65535) + 58;
+}
+
+unsigned plain_checksum(const uint8_t *packet, size_t length, const uint8_t *source, const uint8_t *destination) {
+    uint64_t sum = words(words(pseudo_header(length, source, destination), packet, 2), packet + 4, length - 4);
+    return 65535 - folded(sum);
+}
+
+static bool sums_up(const uint8_t *packet, size_t length, const uint8_t *source, const uint8_t *destination) {
+    return folded(words(pseudo_header(length, source, destination), packet, length)) == 65535;
+}
+
+struct brothladder_verified plain_verify(const uint8_t *packet, size_t length, const uint8_t *source, const uint8_t *destination) {
+    struct brothladder_verified v;
+    memset(&v, 0, sizeof v);
+    v.answer = BROTHLADDER_REFUSED;
+    if ((v.refusal = bad_length(length, v.value)) != 0) return v;
+    v.answer = sums_up(packet, length, source, destination) ? BROTHLADDER_VALID : BROTHLADDER_INVALID;
+    return v;
+}
+
+/* What stands at the head of option bytes that are left, in document 01's order. 0 for an option. */
+static uint32_t bad_option(const uint8_t *p, size_t left, uint64_t value[4]) {
+    value[0] = p[0];
+    if (left < 2) return value[1] = 2, value[2] = left, 5;
+    size_t bytes = 8 * (size_t)p[1];
+    if (bytes == 0) return 6;
+    if (left < bytes) return value[1] = bytes, value[2] = left, 7;
+    if (p[0] == 3 && bytes != 32) return value[1] = 32, value[2] = bytes, 5;
+    if (p[0] == 5 && bytes != 8) return value[1] = 8, value[2] = bytes, 5;
+    return value[0] = 0, 0;
+}
+
+struct brothladder_stepped plain_step(const uint8_t *options, size_t length, size_t at) {
+    struct brothladder_stepped s;
+    memset(&s, 0, sizeof s);
+    s.next = at;
+    if (at >= length) return s.answer = at == length ? BROTHLADDER_END : BROTHLADDER_STOPPED, s;
+    const uint8_t *p = options + at;
+    if ((s.refusal = bad_option(p, length - at, s.value)) != 0) {
+        s.answer = BROTHLADDER_REFUSED;
+        s.next = length + 1;
+        return s;
+    }
+    s.answer = BROTHLADDER_OPTION;
+    s.kind = p[0] <= 5 ? p[0] : 0;
+    s.type = p[0];
+    s.at = at;
+    s.length = 8 * (size_t)p[1];
+    s.next = at + s.length;
+    return s;
+}
+
+/* The refusal of a whole walk; 0 for a clean one. `source_option` says whether a type 1 is among the options. */
+static uint32_t bad_walk(const uint8_t *p, size_t left, uint64_t value[4], bool *source_option) {
+    uint32_t refusal = 0;
+    *source_option = false;
+    while (left > 0 && (refusal = bad_option(p, left, value)) == 0) {
+        *source_option = *source_option || p[0] == 1;
+        left -= 8 * (size_t)p[1];
+        p += 8 * (size_t)p[1];
+    }
+    return refusal;
+}
+
+static bool link_local(const uint8_t *a) { return a[0] == 0xfe && a[1] == 0x80; }
+static bool multicast(const uint8_t *a) { return a[0] == 0xff; }
+static bool unspecified(const uint8_t *a) { static const uint8_t none[16]; return memcmp(a, none, 16) == 0; }
+static bool solicited_node(const uint8_t *a) {
+    static const uint8_t start[13] = {0xff, 0x02, 0, 0, 0, 0, 0, 0, 0, 0, 0, 1, 0xff};
+    return memcmp(a, start, 13) == 0;
+}
+
+/* The reason why a packet of 8 bytes at least does not pass; 0 if it does. */
+static uint32_t reason(const uint8_t *p, size_t length, uint8_t hop_limit, const uint8_t *source, const uint8_t *destination) {
+    int type = p[0];
+    uint64_t value[4];
+    bool source_option;
+    if (!neighbor_discovery(type)) return sums_up(p, length, source, destination) ? 0 : 2;
+    if (hop_limit != 255) return 1;
+    if (!sums_up(p, length, source, destination)) return 2;
+    if (p[1] != 0) return 3;
+    if (length < 8 + fixed_part(type)) return 4;
+    if (bad_walk(p + 8 + fixed_part(type), length - 8 - fixed_part(type), value, &source_option)) return 5;
+    const uint8_t *target = p + 8, *field = p + 24;
+    switch (type) {
+    case 133:
+        return unspecified(source) && source_option ? 8 : 0;
+    case 134:
+        return !link_local(source) ? 6 : 0;
+    case 135:
+        if (unspecified(source) && !solicited_node(destination)) return 6;
+        if (multicast(target)) return 7;
+        return unspecified(source) && source_option ? 8 : 0;
+    case 136:
+        if ((p[4] & 64) && multicast(destination)) return 6;
+        return multicast(target) ? 7 : 0;
+    default:
+        if (!link_local(source)) return 6;
+        return multicast(field) || (!link_local(target) && memcmp(target, field, 16) != 0) ? 7 : 0;
+    }
+}
+
+struct brothladder_received plain_receive(const uint8_t *packet, size_t length, uint8_t hop_limit, const uint8_t *source,
+                                          const uint8_t *destination) {
+    struct brothladder_received r;
+    memset(&r, 0, sizeof r);
+    r.answer = BROTHLADDER_REFUSED;
+    if ((r.refusal = bad_length(length, r.value)) != 0) return r;
+    if ((r.value[0] = reason(packet, length, hop_limit, source, destination)) != 0) return r.refusal = 11, r;
+    r.answer = BROTHLADDER_RECEIVED;
+    r.options_at = neighbor_discovery(packet[0]) ? 8 + fixed_part(packet[0]) : length;
+    r.options_length = length - r.options_at;
+    return r;
+}
+
+/* "Unless the value is Unknown, bytes 4 to 7 of 1, 3, 133, 135, 137, and the reserved bits of 134 and 136, are written 0." */
+static uint32_t kept(int type, int code, uint32_t bytes5to8) {
+    if (code >= codes(type)) return bytes5to8;
+    switch (type) {
+    case 1: case 3: case 133: case 135: case 137: return 0;
+    case 134: return bytes5to8 & 0xffc0ffff;
+    case 136: return bytes5to8 & 0xe0000000;
+    default: return bytes5to8;
+    }
+}
+
+struct brothladder_written plain_write(uint8_t type, uint8_t code, uint32_t bytes5to8, const uint8_t *payload, size_t payload_length,
+                                       const uint8_t *source, const uint8_t *destination, uint8_t *out, size_t out_length) {
+    struct brothladder_written w;
+    bool source_option;
+    memset(&w, 0, sizeof w);
+    w.answer = BROTHLADDER_REFUSED;
+    if (payload_length > 65527) return w.value[0] = 65527, w.value[1] = payload_length, w.refusal = 3, w;
+    if (neighbor_discovery(type) && code == 0) {
+        size_t fixed = fixed_part(type);
+        if (payload_length < fixed) return w.value[0] = fixed, w.value[1] = payload_length, w.refusal = 4, w;
+        if ((w.refusal = bad_walk(payload + fixed, payload_length - fixed, w.value, &source_option)) != 0) return w;
+    }
+    if (out_length < 8 + payload_length) return w.value[0] = 8 + payload_length, w.refusal = 9, w;
+    uint32_t rest = kept(type, code, bytes5to8);
+    const uint8_t head[8] = {type, code, 0, 0, (uint8_t)(rest >> 24), (uint8_t)(rest >> 16), (uint8_t)(rest >> 8), (uint8_t)rest};
+    memcpy(out, head, 8);
+    if (payload_length > 0) memcpy(out + 8, payload, payload_length);
+    w.length = 8 + payload_length;
+    unsigned sum = plain_checksum(out, w.length, source, destination);
+    out[2] = (uint8_t)(sum >> 8);
+    out[3] = (uint8_t)sum;
+    w.answer = BROTHLADDER_WRITTEN;
+    return w;
+}
+
+/* Prefix option: 3, 4, prefix length, flags (128 on-link, 64 autonomous), valid and preferred lifetimes, 4 reserved bytes, 16 of
+   prefix. Another size is refusal 5, another head of 32 bytes refusal 8. */
+struct brothladder_prefix plain_prefix(const uint8_t *option, size_t length) {
+    struct brothladder_prefix p;
+    memset(&p, 0, sizeof p);
+    p.answer = BROTHLADDER_REFUSED;
+    p.value[0] = 3;
+    if (length != 32) return p.value[1] = 32, p.value[2] = length, p.refusal = 5, p;
+    if (option[0] != 3 || option[1] != 4) return p.value[1] = option[0], p.value[2] = 4, p.value[3] = option[1], p.refusal = 8, p;
+    p.value[0] = 0;
+    p.answer = BROTHLADDER_PREFIX;
+    p.prefix_length = option[2];
+    p.on_link = option[3] >> 7;
+    p.autonomous = option[3] >> 6 & 1;
+    p.valid_lifetime = number(option + 4, 4);
+    p.preferred_lifetime = number(option + 8, 4);
+    memcpy(p.prefix, option + 16, 16);
+    return p;
+}
