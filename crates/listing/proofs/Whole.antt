@@ -8,7 +8,7 @@ use native.Mathlib.Omega.{arith}
 use native.Mathlib.Nat.{add-zero}
 use lib.Dec.{eqb}
 use lib.ListN.{length, take, drop, take-append-drop, length-append}
-use lib.Seq.{length-take-le}
+use lib.Seq.{length-take-le, drop-append-le}
 use Rattle.capture.specs.Record.{hopLimit, source, destination, packet, packetLen, recordOf, isRecord}
 use Rattle.capture.specs.Capture.{Item, Capture, settled, recordLen, follow, captureFrom}
 use Rattle.capture.proofs.Laws.{is-found, stable, same-len, same-parts}
@@ -107,3 +107,18 @@ pieces-join n place kept (p ∷ ps) =
 -- The texts of the pieces, wherever the capture is cut, join to its listing.
 pub listing-joins : (ps : List (List ℕ)) → titleLine ++ piecesText 0 0 [] ps ≡ listingOf (concat ps)
 listing-joins ps = ap (λ (l : List ℕ). titleLine ++ l) (pieces-join 0 0 [] ps)
+
+-- ---- one record at a time, whatever follows the bytes
+pub on-record-more : (n place : ℕ) (s t : List ℕ) → isRecord (recordOf s place) ≡ true
+    → restText n (captureFrom place (s ++ t)) ≡ recordText (n + 1) place (hopLimit s) (source s) (destination s) (packet s) ++ restText (n + 1) (captureFrom (place + recordLen s) (drop (recordLen s) s ++ t))
+on-record-more n place s t e =
+    let f = is-found s place e in
+    let same = same-parts s t (f .fits) in
+    on-record n place (s ++ t) (ap isRecord (stable s t place (rw e)) ∙ e)
+    ∙ rw (same .hop, same .from, same .to, same .body, same-len s t (omega (arith, f .fits)), drop-append-le (recordLen s) s t (f .fits))
+
+pub on-stop-more : (n place : ℕ) (s t : List ℕ) → isRecord (recordOf s place) ≡ false → settled (recordOf s place) ≡ true
+    → restText n (captureFrom place (s ++ t)) ≡ cond (eqb (recordOf s place .number) 0) (recordsLine n) (stoppedLine (recordOf s place .number) place)
+on-stop-more n place s t e k =
+    let same = stable s t place k in
+    on-stop n place (s ++ t) (ap isRecord same ∙ e) ∙ rw same

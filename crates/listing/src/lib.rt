@@ -40,7 +40,7 @@ pub fn put_record(
     destination: &[u8; 16],
     packet: &[u8],
 ) -> Put
-    ensures answers { λ r. ⌜ paper r ≡ recorded (now (packet .entry)) (putOf (now (out .entry)) at (recordText number place «hop_limit» (now (source .entry)) (now (destination .entry)) (now (packet .entry)))) ⌝ }
+    ensures answers { λ r. ⌜ (paper r ≡ recorded (now (packet .entry)) (putOf (now (out .entry)) at (recordText number place «hop_limit» (now (source .entry)) (now (destination .entry)) (now (packet .entry))))) × (length (now (packet .entry)) ≤ 2048 → length (recordText number place «hop_limit» (now (source .entry)) (now (destination .entry)) (now (packet .entry))) ≤ 33024) ⌝ }
     ensures lent { λ r. ⌜ now (out .exit) ≡ leaves (recorded (now (packet .entry)) (putOf (now (out .entry)) at (recordText number place «hop_limit» (now (source .entry)) (now (destination .entry)) (now (packet .entry))))) (now (out .entry)) at (recordText number place «hop_limit» (now (source .entry)) (now (destination .entry)) (now (packet .entry))) ⌝ }
 {
     let len = packet.len();

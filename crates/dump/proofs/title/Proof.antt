@@ -1,0 +1,52 @@
+-- `dump::title` meets its contract: the line has room.
+-- Assumes nothing.
+use denote.Ref.{now}
+use native.Mathlib.Omega.{arith}
+use Rattle.lent.proofs.Fitting.{told}
+use Rattle.lines.specs.declared.Line.the-variants.{Title}
+use Rattle.lines.specs.Line.{text}
+use borrow.Author.Needs.{needs}
+use Rattle.dump.proofs.title.Statement.{statement}
+use Rattle.dump.proofs.title.Tie as tie
+
+put-line-requires : tie.Need-put-line-requires
+put-line-requires c κs = search needs
+
+enum-known-n : tie.Need-enum-known-n
+enum-known-n c = search needs
+
+flush-requires : tie.Need-flush-requires
+flush-requires c κs =
+    let k = c .before .before in
+    let p = k .before .before .before .before in
+    let a = p .before .before .before in
+    let w = told (now (a .args .out)) 0 (text Title) _ (p .put-line .result) (p .put-line .ensures .0 .0) (p .put-line .ensures .1) (omega (arith, a .pre, p .put-line .ensures .0 .1)) (k .n .given .0 .0) (k .n .given .1) in
+    omega (arith, w .ends, a .pre, p .put-line .ensures .0 .1, p .put-line .kept .0)
+
+enum-told : tie.Need-enum-told
+enum-told c = search needs
+
+same-length : tie.Need-same-length
+same-length c = search needs
+
+returns : tie.Need-returns
+returns c = search needs
+
+same-length-2 : tie.Need-same-length-2
+same-length-2 c = search needs
+
+returns-2 : tie.Need-returns-2
+returns-2 c = search needs
+
+pub title-spec : {M : Type 1} → statement M
+title-spec =
+    tie.close
+    (tie.spec
+    put-line-requires
+    enum-known-n
+    flush-requires
+    enum-told
+    same-length
+    returns
+    same-length-2
+    returns-2)
