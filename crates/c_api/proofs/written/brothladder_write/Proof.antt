@@ -1,7 +1,7 @@
 -- `brothladder_write` meets its contract: what `from_parts` makes is the value of the numbers; answer and output are as `write_packet` promises them of it.
 -- Assumes nothing.
 use Rattle.c_api.proofs.Laws.{value-is}
-use Rattle.c_api.specs.Written.{writtenFor}
+use Rattle.c_api.specs.Written.{valueOf, writtenFor}
 use Rattle.refusal.proofs.Paper.{refusal-numbered}
 use Prim.Native.Nat.{ℕ}
 use mathlib.Core.Path.{_≡_, sym, ap, _∙_}
@@ -43,16 +43,34 @@ cast-t19 c = search needs
 same-length : tie.Need-same-length
 same-length c = search needs
 
+-- what is written is the value of the three numbers
+made : (c : tie.After-from-parts) →
+    let a = c .before .before .before .before .args in
+    valueOf (a .type-u8) (a .code-u8) (a .bytes5to8) ≡ c .from-parts .result
+made c = value-is _ _ _ (c .before .u32-to-be .ensures) (c .from-parts .ensures)
+
 returns : tie.Need-returns
 unfolding writtenFor
-returns c = let w = c .before .before .before .before .before in let p = w .before .before in let a = p .before .before .before .before .args in let e = value-is {t = p .from-parts .result} _ _ _ (p .before .u32-to-be .ensures) (p .from-parts .ensures) in (rw (e, ← (w .write-packet .ensures .0), c .before .length .given .1), w .write-packet .ensures .1 ∙ left-by (a .source .now) (a .destination .now) (a .payload .now) (a .out .now) (sym e))
+returns c =
+    let w = c .before .before .before .before .before in
+    let a = w .before .before .before .before .before .before .args in
+    let e = made (w .before .before) in (
+      rw (e, ← (w .write-packet .ensures .0), c .before .length .given .1),
+      w .write-packet .ensures .1 ∙ left-by (a .source .now) (a .destination .now) (a .payload .now) (a .out .now) (sym e),
+    )
 
 same-length-2 : tie.Need-same-length-2
 same-length-2 c = search needs
 
 returns-2 : tie.Need-returns-2
 unfolding writtenFor
-returns-2 c = let w = c .before .before .before .before .before .before .before .before in let p = w .before .before in let a = p .before .before .before .before .args in let e = value-is {t = p .from-parts .result} _ _ _ (p .before .u32-to-be .ensures) (p .from-parts .ensures) in (rw (e, c .before .before .numbers .ensures, ← (w .write-packet .ensures .0), c .before .before .before .before .why .given .1, refusal-numbered), w .write-packet .ensures .1 ∙ left-by (a .source .now) (a .destination .now) (a .payload .now) (a .out .now) (sym e))
+returns-2 c =
+    let w = c .before .before .before .before .before .before .before .before in
+    let a = w .before .before .before .before .before .before .args in
+    let e = made (w .before .before) in (
+      rw (e, c .before .before .numbers .ensures, ← (w .write-packet .ensures .0), c .before .before .before .before .why .given .1, refusal-numbered),
+      w .write-packet .ensures .1 ∙ left-by (a .source .now) (a .destination .now) (a .payload .now) (a .out .now) (sym e),
+    )
 
 pub brothladder-write-spec : {M : Type 1} → statement M
 brothladder-write-spec =
