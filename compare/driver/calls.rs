@@ -28,9 +28,11 @@ pub enum Call {
     PayloadOfPacketToAbsent = 18,
     AdvertPayload = 19,
     RedirectPayload = 20,
+    Count = 21,
+    HasType = 22,
 }
 
-const CALLS: [Call; 20] = [
+const CALLS: [Call; 22] = [
     Call::Packet,
     Call::Type,
     Call::HeaderToBytes,
@@ -51,6 +53,8 @@ const CALLS: [Call; 20] = [
     Call::PayloadOfPacketToAbsent,
     Call::AdvertPayload,
     Call::RedirectPayload,
+    Call::Count,
+    Call::HasType,
 ];
 
 pub enum Answer {
@@ -111,6 +115,8 @@ impl Call {
             Call::PayloadOfPacketToAbsent => "Icmpv6Slice::payload_slice up to an absent reader",
             Call::AdvertPayload => "RouterAdvertisementPayloadSlice",
             Call::RedirectPayload => "RedirectPayloadSlice",
+            Call::Count => "NdpOptionsIterator, counted",
+            Call::HasType => "NdpOptionsIterator, a type looked for",
         }
     }
 
@@ -130,6 +136,10 @@ impl Call {
             Call::RedirectedHeader => redirected_header(input),
             Call::AdvertPayload => advert_payload(input),
             Call::RedirectPayload => redirect_payload(input),
+            Call::Count => whole_list(input, |options| options.len() as u64),
+            Call::HasType => whole_list(&input[1..], |options| {
+                options.iter().any(|o| o.option_type().0 == input[0]) as u64
+            }),
             _ => vec![],
         });
         match self {
@@ -410,6 +420,23 @@ fn walk(input: &[u8]) -> Answer {
         assert!(options.next().is_none());
         return Answer::Told(Call::Walk, told);
     }
+}
+
+/// Something of a whole list, or the refusal and its place.
+fn whole_list(input: &[u8], tell: impl Fn(&[NdpOptionSlice]) -> u64) -> Vec<u64> {
+    let mut options = vec![];
+    for option in NdpOptionsIterator::from_slice(input) {
+        match option {
+            Ok(option) => options.push(option),
+            Err(e) => {
+                let at = options.iter().map(|o| o.as_bytes().len() as u64).sum();
+                let mut told = refusal(e);
+                told.push(at);
+                return told;
+            }
+        }
+    }
+    vec![0, tell(&options)]
 }
 
 /// The kind of a payload, the length of its fixed part, how many bytes are behind it, and the fields of the fixed part.

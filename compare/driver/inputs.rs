@@ -73,6 +73,16 @@ fn payload_calls(sink: &mut Sink, payload: &[u8]) {
     sink.run(Call::RedirectPayload, payload);
 }
 
+/// A walk; and the whole list counted and looked through, where every reader that it comes to is there.
+fn list_calls(sink: &mut Sink, options: &[u8]) {
+    sink.run(Call::Walk, options);
+    if options.len() < 65535 && sink.further() {
+        sink.run(Call::Count, options);
+        let wanted = options.len() as u8 % 3 + 4;
+        sink.run(Call::HasType, &[&[wanted], options].concat());
+    }
+}
+
 fn reader_calls(sink: &mut Sink, option: &[u8]) {
     for call in [
         Call::OptionHeaderFromSlice,
@@ -126,7 +136,7 @@ fn short(sink: &mut Sink) {
             packet_calls(sink, input);
             payload_calls(sink, input);
             reader_calls(sink, input);
-            sink.run(Call::Walk, input);
+            list_calls(sink, input);
         }
     };
     sink.every(1);
@@ -174,7 +184,7 @@ fn lists(sink: &mut Sink) {
             sink.every(kept as u64);
             for list in tailed {
                 if sink.wants() {
-                    sink.run(Call::Walk, list);
+                    list_calls(sink, list);
                 }
             }
         };
@@ -418,8 +428,8 @@ fn walks(sink: &mut Sink) {
         }
         list.truncate(65535);
         if sink.wants() {
-            sink.run(Call::Walk, &list);
-            sink.run(Call::Walk, &random.damage(&list));
+            list_calls(sink, &list);
+            list_calls(sink, &random.damage(&list));
         }
     };
     sink.every(150);
@@ -436,7 +446,7 @@ fn walks(sink: &mut Sink) {
     for len in 65519..=65535 {
         let list: Vec<u8> = [5, 1, 0, 0, 0, 0, 5, 220].into_iter().cycle().take(len).collect();
         if sink.wants() {
-            sink.run(Call::Walk, &list);
+            list_calls(sink, &list);
         }
     }
 }
@@ -458,7 +468,7 @@ pub fn traffic(sink: &mut Sink, capture: &[u8]) {
             137 => 40,
             _ => continue,
         };
-        sink.run(Call::Walk, &packet[fixed..]);
+        list_calls(sink, &packet[fixed..]);
     }
     assert!(rest.is_empty());
 }

@@ -5,7 +5,7 @@
 //!     vectors damaged PUBLISHED [CAPTURE..]   the sample, each answer with one bit turned round
 //!     vectors others                          what no vector holds, as text: refusals 2 and 3, and the calls that stop on every input
 //!
-//! The count of each call, and of the calls that stopped at an absent file, goes to standard error.
+//! The count of each call, and of the calls that stopped at an absent file, goes to standard error; the last line there is `complete`.
 
 mod calls;
 mod inputs;
@@ -33,6 +33,8 @@ fn main() {
             for capture in captures {
                 inputs::traffic(&mut sink, &read(capture));
             }
+            drop(sink);
+            eprintln!("complete");
         }
         ["others"] => calls::others(),
         _ => eprintln!("vectors full|sample|damaged PUBLISHED [CAPTURE..], or vectors others"),

@@ -17,6 +17,7 @@ pub struct Sink {
     mode: Mode,
     every: u64,
     turn: u64,
+    inputs: u64,
     told: BTreeMap<u8, (&'static str, u64)>,
     absent: BTreeMap<String, u64>,
 }
@@ -28,6 +29,7 @@ impl Sink {
             mode,
             every: 1,
             turn: 0,
+            inputs: 0,
             told: BTreeMap::new(),
             absent: BTreeMap::new(),
         }
@@ -44,6 +46,12 @@ impl Sink {
         let turn = self.turn;
         self.turn += 1;
         self.mode == Mode::Full || (self.every != 0 && turn % self.every == 0)
+    }
+
+    /// Whether an input that is run is one for further calls too: in a sample every eighth.
+    pub fn further(&mut self) -> bool {
+        self.inputs += 1;
+        self.mode == Mode::Full || self.inputs % 8 == 0
     }
 
     /// One call on one input: what it told, or that it stopped at an absent file.

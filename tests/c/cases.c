@@ -6,24 +6,29 @@
 #include <string.h>
 #include <sys/mman.h>
 
-static const uint8_t none[16], router[16] = {0xfe, 0x80, [15] = 1}, all_routers[16] = {0xff, 0x02, [15] = 2};
+const uint8_t none[16], router[16] = {0xfe, 0x80, [15] = 1}, all_routers[16] = {0xff, 0x02, [15] = 2};
 static const uint8_t global[16] = {0x20, 0x01, 0x0d, 0xb8, [15] = 1}, other[16] = {0xfe, 0x80, [15] = 2};
 static const uint8_t solicited[16] = {0xff, 0x02, [11] = 1, 0xff, 0, 0, 1};
 
-/* The bytes of a case, written as in document 01. */
-static size_t hex(const char *text, uint8_t *bytes) {
+const struct bad_option bad_options[BAD_OPTIONS] = {
+    {"01", 5, {1, 2, 1}},
+    {"fe", 5, {254, 2, 1}},
+    {"01 00", 6, {1}},
+    {"fd 00 00 00 00 00 00 00", 6, {253}},
+    {"01 01 00 00 00 00 00", 7, {1, 8, 7}},
+    {"03 01", 7, {3, 8, 2}},
+    {"ff ff 00 00 00 00 00 00", 7, {255, 2040, 8}},
+    {"03 01 00 00 00 00 00 00", 5, {3, 32, 8}},
+    {"05 02 00 00 00 00 00 00 00 00 00 00 00 00 00 00", 5, {5, 8, 16}},
+};
+
+size_t hex(const char *text, uint8_t *bytes) {
     size_t n = 0;
     for (unsigned x; sscanf(text, "%2x", &x) == 1; text += text[2] ? 3 : 2) bytes[n++] = (uint8_t)x;
     return n;
 }
 
-/* A refusal of any call: the structs begin alike. */
-struct refused {
-    uint32_t answer, refusal;
-    uint64_t value[4];
-};
-
-static void refuses(const char *what, const void *answer, size_t size, uint32_t number, uint64_t v0, uint64_t v1, uint64_t v2, uint64_t v3) {
+void refuses(const char *what, const void *answer, size_t size, uint32_t number, uint64_t v0, uint64_t v1, uint64_t v2, uint64_t v3) {
     struct refused r, wanted = {BROTHLADDER_REFUSED, number, {v0, v1, v2, v3}};
     static const uint8_t rest[64];
     memcpy(&r, answer, sizeof r);
@@ -43,7 +48,6 @@ static void layout(void) {
     same("verified has no hole", sizeof(struct brothladder_verified), 40);
     same("stepped has no hole", sizeof(struct brothladder_stepped), 40 + 4 + 4 + 3 * sizeof(size_t));
     same("received has no hole", sizeof(struct brothladder_received), 40 + 2 * sizeof(size_t));
-    same("written has no hole", sizeof(struct brothladder_written), 40 + sizeof(size_t));
     same("prefix has no hole", sizeof(struct brothladder_prefix), 40 + 4 + 2 + 2 + 4 + 4 + 16);
     const uint32_t answers[] = {BROTHLADDER_REFUSED, BROTHLADDER_KNOWN, BROTHLADDER_UNKNOWN, BROTHLADDER_VALID, BROTHLADDER_INVALID,
                                 BROTHLADDER_OPTION, BROTHLADDER_END, BROTHLADDER_STOPPED, BROTHLADDER_RECEIVED, BROTHLADDER_WRITTEN,
@@ -105,11 +109,6 @@ static void worked(void) {
     same("P13", brothladder_verify(b, n, none, none).answer, BROTHLADDER_VALID);
     b[2] = b[3] = 0xff;
     same("P13, the other zero", brothladder_verify(b, n, none, none).answer, BROTHLADDER_VALID);
-
-    memset(b, 0xee, sizeof b);
-    struct brothladder_written w = brothladder_write(135, 0, 0, none, 15, router, all_routers, b, sizeof b);
-    refuses("P14", &w, sizeof w, 4, 16, 15, 0, 0);
-    for (size_t i = 0; i < sizeof b; i++) same("P14 leaves the output", b[i], 0xee);
 }
 
 /* the two packets of document 01's dump */
@@ -202,32 +201,12 @@ static void reasons(void) {
     refuses("echo, a wrong checksum", &r, sizeof r, 11, BROTHLADDER_REASON_CHECKSUM, 0, 0, 0);
 }
 
-/* The refusals of a step and of the writer, which gives the same ones behind the fixed part. */
+/* The refusals of a step. */
 static void options_refused(void) {
-    static const struct {
-        const char *bytes;
-        uint32_t number;
-        uint64_t value[3];
-    } bad[] = {
-        {"01", 5, {1, 2, 1}},
-        {"fe", 5, {254, 2, 1}},
-        {"01 00", 6, {1}},
-        {"fd 00 00 00 00 00 00 00", 6, {253}},
-        {"01 01 00 00 00 00 00", 7, {1, 8, 7}},
-        {"03 01", 7, {3, 8, 2}},
-        {"ff ff 00 00 00 00 00 00", 7, {255, 2040, 8}},
-        {"03 01 00 00 00 00 00 00", 5, {3, 32, 8}},
-        {"05 02 00 00 00 00 00 00 00 00 00 00 00 00 00 00", 5, {5, 8, 16}},
-    };
-    for (size_t i = 0; i < sizeof bad / sizeof *bad; i++) {
-        uint8_t b[64] = {0}, out[80], before[80];
-        size_t n = hex(bad[i].bytes, b + 8);
-        step_refuses(bad[i].bytes, brothladder_step(b + 8, n, 0), n, bad[i].number, bad[i].value[0], bad[i].value[1], bad[i].value[2]);
-        memset(out, 0x11, sizeof out);
-        memcpy(before, out, sizeof out);
-        struct brothladder_written w = brothladder_write(134, 0, 0, b, 8 + n, router, all_routers, out, sizeof out);
-        refuses(bad[i].bytes, &w, sizeof w, bad[i].number, bad[i].value[0], bad[i].value[1], bad[i].value[2], 0);
-        check(memcmp(out, before, sizeof out) == 0, bad[i].bytes, "the output is left alone");
+    for (size_t i = 0; i < BAD_OPTIONS; i++) {
+        uint8_t b[64];
+        size_t n = hex(bad_options[i].bytes, b);
+        step_refuses(bad_options[i].bytes, brothladder_step(b, n, 0), n, bad_options[i].number, bad_options[i].value[0], bad_options[i].value[1], bad_options[i].value[2]);
     }
     uint8_t b[32] = {4, 4};
     struct brothladder_prefix p = brothladder_read_prefix(b, 32);
@@ -253,18 +232,12 @@ static void empty(void) {
         same("step in nothing", brothladder_step(nothing, 0, 0).answer, BROTHLADDER_END);
         same("step beyond nothing", brothladder_step(nothing, 0, 1).answer, BROTHLADDER_STOPPED);
         same("step far beyond nothing", brothladder_step(nothing, 0, SIZE_MAX).answer, BROTHLADDER_STOPPED);
-        struct brothladder_written w = brothladder_write(128, 0, 0, nothing, 0, router, router, nothing, 0);
-        refuses("write into nothing", &w, sizeof w, 9, 8, 0, 0, 0);
-        uint8_t out[8];
-        w = brothladder_write(128, 0, 0x00010002, nothing, 0, router, router, out, 8);
-        same("write of no payload", w.answer, BROTHLADDER_WRITTEN);
-        same("its length", w.length, 8);
     }
 }
 
 /* A packet of 65,535 bytes whose options fill it, and longer ones. */
 static void longest(void) {
-    static uint8_t b[65536 + 8], out[65536 + 8];
+    static uint8_t b[65536 + 8];
     for (size_t i = 0; i < sizeof b; i++) b[i] = (uint8_t)chance();
     for (size_t at = 8; at < 65535; at += 8 * b[at + 1]) {
         size_t left = (65535 - at) / 8;
@@ -277,29 +250,23 @@ static void longest(void) {
         struct brothladder_verified v = brothladder_verify(b, n, router, other), vw = plain_verify(b, n, router, other);
         same_answer("verify of a long packet", &v, &vw, sizeof v);
     }
-    /* written, then received: 65,527 bytes of payload are the most */
-    struct brothladder_written w = brothladder_write(133, 0, 0, b + 8, 65527 - 7, router, all_routers, out, sizeof out);
-    same("a long packet is written", w.answer, BROTHLADDER_WRITTEN);
-    same("its length", w.length, 65528);
-    struct brothladder_received r = brothladder_receive(out, w.length, 255, router, all_routers);
-    same("and received", r.answer, BROTHLADDER_RECEIVED);
+    b[0] = 133;
+    b[1] = 0;
+    unsigned sum = plain_checksum(b, 65528, router, all_routers);
+    b[2] = (uint8_t)(sum >> 8);
+    b[3] = (uint8_t)sum;
+    struct brothladder_received r = brothladder_receive(b, 65528, 255, router, all_routers);
+    same("a long packet is received", r.answer, BROTHLADDER_RECEIVED);
     size_t at = 0, steps = 0;
     struct brothladder_stepped s;
-    while ((s = brothladder_step(out + 8, r.options_length, at)).answer == BROTHLADDER_OPTION) {
-        check(s.at == at && s.next == at + s.length && s.length == 8 * (size_t)out[8 + at + 1], "options touch", "");
+    while ((s = brothladder_step(b + 8, r.options_length, at)).answer == BROTHLADDER_OPTION) {
+        check(s.at == at && s.next == at + s.length && s.length == 8 * (size_t)b[8 + at + 1], "options touch", "");
         at = s.next;
         steps++;
     }
     same("to its end", s.answer, BROTHLADDER_END);
     same("which is the end", at, r.options_length);
     check(steps <= r.options_length / 8, "no more options than fit", "");
-    w = brothladder_write(128, 0, 0, b, 65527, router, all_routers, out, sizeof out);
-    same("65,535 bytes", w.length, 65535);
-    same("validate", brothladder_verify(out, w.length, router, all_routers).answer, BROTHLADDER_VALID);
-    w = brothladder_write(128, 0, 0, b, 65528, router, all_routers, out, sizeof out);
-    refuses("one more", &w, sizeof w, 3, 65527, 65528, 0, 0);
-    w = brothladder_write(128, 0, 0, b, 65527, router, all_routers, out, 65534);
-    refuses("no room for it", &w, sizeof w, 9, 65535, 0, 0, 0);
 
     /* above 4,294,967,295 bytes: pages that nobody touches */
     size_t huge = 4294967296u;
@@ -314,26 +281,18 @@ static void longest(void) {
     refuses("verify of 4 GiB", &v, sizeof v, 2, 4294967295u, huge, 0, 0);
     r = brothladder_receive(p, huge, 255, router, router);
     refuses("receive of 4 GiB", &r, sizeof r, 2, 4294967295u, huge, 0, 0);
-    w = brothladder_write(128, 0, 0, p, huge, router, router, out, sizeof out);
-    refuses("write of 4 GiB", &w, sizeof w, 3, 65527, huge, 0, 0);
     h = brothladder_decode(p, huge - 1);
     same("decode of one less", h.answer, BROTHLADDER_UNKNOWN);
     munmap(p, huge);
 }
 
-/* All types with all codes: known or not, and written as they are read. */
+/* All types with all codes: known or not. */
 static void pairs(void) {
     for (int type = 0; type < 256; type++)
         for (int code = 0; code < 256; code++) {
-            uint8_t b[8] = {(uint8_t)type, (uint8_t)code, 0x12, 0x34, 0xff, 0xff, 0xff, 0xff}, out[40], wanted[40];
+            uint8_t b[8] = {(uint8_t)type, (uint8_t)code, 0x12, 0x34, 0xff, 0xff, 0xff, 0xff};
             struct brothladder_head h = brothladder_decode(b, 8), hw = plain_decode(b, 8);
             same_answer("a type and a code", &h, &hw, sizeof h);
-            memset(out, 0, sizeof out);
-            memset(wanted, 0, sizeof wanted);
-            struct brothladder_written w = brothladder_write((uint8_t)type, (uint8_t)code, 0xffffffff, none, 0, router, other, out, sizeof out);
-            struct brothladder_written ww = plain_write((uint8_t)type, (uint8_t)code, 0xffffffff, none, 0, router, other, wanted, sizeof wanted);
-            same_answer("written", &w, &ww, sizeof w);
-            check(memcmp(out, wanted, sizeof out) == 0, "the bytes written", "");
         }
 }
 

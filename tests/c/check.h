@@ -30,6 +30,36 @@ int stands(enum room room, const uint8_t *bytes, size_t length);
 uint64_t chance(void);
 uint32_t below(uint32_t n);
 
+/* A refusal of any call: the structs begin alike. */
+struct refused {
+    uint32_t answer, refusal;
+    uint64_t value[4];
+};
+
+/* Whether an answer is this refusal, and says nothing else. */
+void refuses(const char *what, const void *answer, size_t size, uint32_t number, uint64_t v0, uint64_t v1, uint64_t v2, uint64_t v3);
+
+/* The bytes of a case, written as in document 01. */
+size_t hex(const char *text, uint8_t *bytes);
+
+/* Option bytes that are refused, with the refusal. */
+enum { BAD_OPTIONS = 9 };
+extern const struct bad_option {
+    const char *bytes;
+    uint32_t number;
+    uint64_t value[3];
+} bad_options[BAD_OPTIONS];
+
+extern const uint8_t none[16], router[16], all_routers[16];
+
+/* Counts an answer that chance brought about. */
+void note(uint32_t answer, uint32_t refusal, uint64_t value);
+
+/* Writes what a packet says into some room, by the library and by plain C. */
+enum { LONGEST = 400 };
+void write_again(const uint8_t *packet, size_t n, const uint8_t *source, const uint8_t *destination);
+
 void cases(void);   /* document 01's worked cases, every refusal, edges */
+void writes(void);  /* the packet writer */
 void damaged(void); /* 100,000 packets, random and damaged, beside plain.c */
 #endif

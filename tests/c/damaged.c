@@ -5,7 +5,7 @@
 #include <stdio.h>
 #include <string.h>
 
-enum { PACKETS = 100000, LONGEST = 400 };
+enum { PACKETS = 100000 };
 
 static const uint8_t addresses[][16] = {
     {0},                                                        /* unspecified */
@@ -66,7 +66,7 @@ static size_t damage(uint8_t *p, size_t n) {
 
 static unsigned long seen[16], reasons[9], refusals[15];
 
-static void note(uint32_t answer, uint32_t refusal, uint64_t value) {
+void note(uint32_t answer, uint32_t refusal, uint64_t value) {
     seen[answer & 15]++;
     if (answer == BROTHLADDER_REFUSED) refusals[refusal % 15]++;
     if (refusal == 11) reasons[value % 9]++;
@@ -115,25 +115,6 @@ static void reads(const uint8_t *packet, size_t n, uint8_t hop_limit, const uint
     if (r.answer == BROTHLADDER_RECEIVED) walks(packet + r.options_at, r.options_length);
 }
 
-/* Writes what the packet says into some room, by the library and by plain C. */
-static void writes(const uint8_t *packet, size_t n, const uint8_t *source, const uint8_t *destination) {
-    uint8_t out[LONGEST], wanted[LONGEST];
-    if (n < 8) return;
-    uint32_t rest = (uint32_t)packet[4] << 24 | (uint32_t)packet[5] << 16 | (uint32_t)packet[6] << 8 | packet[7];
-    size_t room = below(8) ? n + below(40) : below((uint32_t)n + 1);
-    for (size_t i = 0; i < room; i++) wanted[i] = out[i] = (uint8_t)chance();
-    enum side side = below(2) ? LOW : HIGH;
-    const uint8_t *p = lend(PACKET, side, packet + 8, n - 8), *from = lend(SOURCE, side, source, 16), *to = lend(DESTINATION, side, destination, 16);
-    uint8_t *o = lend(OUT, side, out, room);
-    struct brothladder_written w = brothladder_write(packet[0], packet[1], rest, p, n - 8, from, to, o, room);
-    struct brothladder_written ww = plain_write(packet[0], packet[1], rest, packet + 8, n - 8, source, destination, wanted, room);
-    same_answer("write", &w, &ww, sizeof w);
-    note(w.answer, w.refusal, 0);
-    check(stands(OUT, wanted, room), "write", "the output holds the packet, then what it held");
-    check(stands(PACKET, packet + 8, n - 8) && stands(SOURCE, source, 16) && stands(DESTINATION, destination, 16), "write", "all else is left alone");
-    if (w.answer == BROTHLADDER_WRITTEN) same("written validates", brothladder_verify(o, w.length, from, to).answer, BROTHLADDER_VALID);
-}
-
 static void often(const char *what, const unsigned long *counts, const char *numbers) {
     for (unsigned n; sscanf(numbers, "%u", &n) == 1; numbers += strcspn(numbers, " ") + 1) {
         char detail[60];
@@ -163,7 +144,7 @@ void damaged(void) {
         }
         reads(packet, n, below(8) ? 255 : (uint8_t)chance(), source, destination);
         if (n > 8) walks(packet + 8, n - 8);
-        writes(packet, n, source, destination);
+        write_again(packet, n, source, destination);
     }
     often("answer", seen, "1 2 3 4 5 6 7 8 9 10 11");
     often("refusal", refusals, "1 4 5 6 7 8 9 11");

@@ -4,6 +4,7 @@
 
 int main(void) {
     cases();
+    writes();
     damaged();
     printf("%lu passed, %lu failed\n", passed, failed);
     return failed != 0 || passed == 0;

@@ -2,7 +2,7 @@
 ghost use mathlib.Core.Path.{_≡_};
 ghost use Rattle.ndp_options.specs.Walk.{stepOf};
 ghost use Rattle.ndp_options.specs.Told.{kindNumber};
-ghost use Rattle.c_api.specs.Stepped.{steppedFor};
+ghost use Rattle.c_api.specs.Stepped.{bare, steppedFor};
 use crate::answer;
 use ndp_options::Cursor;
 use ndp_options::NdpOptionKind;
@@ -34,6 +34,22 @@ fn kind_number(kind: NdpOptionKind) -> u32
     }
 }
 
+// An answer without an option.
+fn bare(answer: u32, refusal: u32, value: [u64; 4], next: usize) -> Stepped
+    ensures { λ r. ⌜ r ≡ bare answer refusal value next ⌝ }
+{
+    Stepped {
+        answer,
+        refusal,
+        value,
+        kind: 0,
+        option_type: 0,
+        at: 0,
+        length: 0,
+        next,
+    }
+}
+
 #[no_mangle]
 pub extern "C" fn brothladder_step(options: &[u8], at: usize) -> Stepped
     ensures { λ r. ⌜ r ≡ steppedFor at (stepOf (now (options .entry)) at) ⌝ }
@@ -54,39 +70,12 @@ pub extern "C" fn brothladder_step(options: &[u8], at: usize) -> Stepped
                 next: next.at,
             }
         }
-        Step::End => Stepped {
-            answer: answer::END,
-            refusal: 0,
-            value: [0, 0, 0, 0],
-            kind: 0,
-            option_type: 0,
-            at: 0,
-            length: 0,
-            next: at,
-        },
+        Step::End => bare(answer::END, 0, [0, 0, 0, 0], at),
         Step::Refused(why, next) => {
             let n = why.numbers();
             let value = n.values;
-            Stepped {
-                answer: answer::REFUSED,
-                refusal: n.number as u32,
-                value,
-                kind: 0,
-                option_type: 0,
-                at: 0,
-                length: 0,
-                next: next.at,
-            }
+            bare(answer::REFUSED, n.number as u32, value, next.at)
         }
-        Step::Stopped => Stepped {
-            answer: answer::STOPPED,
-            refusal: 0,
-            value: [0, 0, 0, 0],
-            kind: 0,
-            option_type: 0,
-            at: 0,
-            length: 0,
-            next: at,
-        },
+        Step::Stopped => bare(answer::STOPPED, 0, [0, 0, 0, 0], at),
     }
 }

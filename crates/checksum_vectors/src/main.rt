@@ -1,11 +1,15 @@
 // Runs RFC 1071's worked example, document 01's cases P11 to P13 and the packets of real captures.
 // Standard input holds records (document 01, "The dump and its records"). A line for each has the checksum that is computed
-// for its packet and the verdict; then each of its bytes is inverted in turn, and no such packet may validate.
+// for its packet and the verdict; then each of its bytes is inverted in turn, and no such packet may validate. At the end stands
+// how many headers that were read and given their checksum anew have the checksum that came in.
 ghost use Prim.Native.Nat.{_+_, _≤_};
 ghost use mathlib.Core.Path.{_≡_};
 ghost use lib.ListN.{length};
 use checksum::Computed;
 use checksum::Verdict;
+use icmpv6::icmpv6_header::HeaderRead;
+use icmpv6::icmpv6_header::Icmpv6Header;
+use icmpv6_checksum::HeaderMade;
 
 // The longest packet of a record.
 const LONGEST: usize = 2048;
@@ -111,20 +115,47 @@ fn count_survivors(copy: &mut [u8], packet: &[u8], source: &[u8; 16], destinatio
     count
 }
 
-// A record's line. The answer is how many damaged packets survive.
-fn run_record(head: &[u8], packet: &[u8]) -> u64
+// 1 where the header, read and given its checksum anew, has the checksum that it came with, and else 0.
+fn comes_again(packet: &[u8], source: &[u8; 16], destination: &[u8; 16]) -> u64
+    ensures { λ r. ⌜ r ≤ 1 ⌝ }
+{
+    let HeaderRead::Header(read) = Icmpv6Header::from_slice(packet) else {
+        return 0;
+    };
+    let t = read.icmp_type;
+    let payload = icmpv6::icmpv6_slice::payload(packet);
+    let HeaderMade::Header(made) = icmpv6_checksum::with_checksum(t, payload, source, destination)
+    else {
+        return 0;
+    };
+    if made.checksum == read.checksum { 1 } else { 0 }
+}
+
+// What a record adds up to: damaged packets that survive, and headers that come again.
+struct Tally {
+    survivors: u64,
+    headers: u64,
+}
+
+// A record's line.
+fn run_record(head: &[u8], packet: &[u8]) -> Tally
     requires { ⌜ length (now head) ≡ 37 ⌝ }
-    ensures { λ r. ⌜ r ≤ length (now (packet .entry)) ⌝ }
+    ensures { λ r. ⌜ (r .survivors ≤ length (now (packet .entry))) × (r .headers ≤ 1) ⌝ }
 {
     let source = address(head, 3);
     let destination = address(head, 19);
     say_checksum(packet, &source, &destination);
     say_verdict(packet, &source, &destination);
+    let headers = comes_again(packet, &source, &destination);
     let mut copy = [0u8; 2048];
     if LONGEST < packet.len() {
-        return 0;
+        return Tally {
+            survivors: 0,
+            headers,
+        };
     }
-    count_survivors(&mut copy, packet, &source, &destination)
+    let survivors = count_survivors(&mut copy, packet, &source, &destination);
+    Tally { survivors, headers }
 }
 
 fn length_of(high: u8, low: u8) -> usize {
@@ -136,8 +167,9 @@ fn say_place(number: u64, at: usize) {
     say_number(b" at ", at as u64);
 }
 
-fn say_totals(records: u64, survivors: u64, left: usize) {
+fn say_totals(records: u64, headers: u64, survivors: u64, left: usize) {
     say_number(b"records ", records);
+    say_number(b" headers ", headers);
     say_number(b" survivors ", survivors);
     say_number(b" left ", left as u64);
     say(b"\n");
@@ -148,6 +180,7 @@ fn run_capture(capture: &[u8])
 {
     let mut at = 0;
     let mut records: u64 = 0;
+    let mut headers: u64 = 0;
     let mut survivors: u64 = 0;
     while capture.len() - at >= 37 {
         let from = at + 37;
@@ -157,10 +190,12 @@ fn run_capture(capture: &[u8])
         }
         records += 1;
         say_place(records, at);
-        survivors += run_record(&capture[at..from], &capture[from..from + len]);
+        let tally = run_record(&capture[at..from], &capture[from..from + len]);
+        headers += tally.headers;
+        survivors += tally.survivors;
         at = from + len;
     }
-    say_totals(records, survivors, capture.len() - at);
+    say_totals(records, headers, survivors, capture.len() - at);
 }
 
 fn run_cases() {

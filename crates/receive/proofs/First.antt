@@ -3,7 +3,7 @@
 use Prim.Native.Nat.{ℕ, _<_}
 use mathlib.Core.Path.{_≡_, refl, sym, _∙_}
 use mathlib.Core.Bool.{Bool, true, false, false≢true, cond, _||_}
-use mathlib.Core.List.{List, [], _∷_, map}
+use mathlib.Core.List.{List, [], _∷_, _++_, map}
 use native.Mathlib.Omega.{arith}
 use lib.Dec.{eqb}
 use borrow.Author.Tests.{eq-eqb}
@@ -55,11 +55,9 @@ first-among {n} (later {r} {rs} h f) = either (eqb n (r .number)) (first-among f
     either true e = refl
     either false e = e
 
--- a reason that does not hold wherever it stands is not the first
-abbrev pub Spared : ℕ → List Reason → Type 0
-Spared n [] = Unit {0}
-Spared n (r ∷ rs) = (r .number ≡ n → r .holds ≡ false) × Spared n rs
-
-pub not-first : {n : ℕ} {rs : List Reason} → Spared n rs → First n rs → ⊥
-not-first s (here e h) = false≢true (sym (s .0 e) ∙ h)
-not-first s (later h f) = not-first (s .1) f
+-- a reason that does not hold may be left out
+pub without : {n : ℕ} (before : List Reason) (r : Reason) (rs : List Reason) → r .holds ≡ false → First n (before ++ r ∷ rs) → First n (before ++ rs)
+without [] r rs q (here e h) = absurd (false≢true (sym q ∙ h))
+without [] r rs q (later h f) = f
+without (b ∷ before) r rs q (here e h) = here e h
+without (b ∷ before) r rs q (later h f) = later h (without before r rs q f)

@@ -1,8 +1,10 @@
 pub mod Lengths
 pub mod First
+pub mod Answers
+pub mod Types
+pub mod Options
 pub mod Theorems
 pub mod Witnesses
 pub mod Whole
-pub mod Options
 pub mod Paper
 pub mod Unique

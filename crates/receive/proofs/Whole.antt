@@ -8,7 +8,6 @@ use mathlib.Core.List.{List, _∷_}
 use native.Mathlib.Omega.{arith}
 use lib.ListN.{length, getD, drop}
 use borrow.Author.Tests.{not-false, eqb-true, ltb-false}
-use Rattle.wire.proofs.Cases.{cases}
 use Rattle.message_table.specs.Table.{known}
 use Rattle.packet_length.proofs.Laws.{sized-fits}
 use Rattle.icmpv6_type.proofs.Laws.{as-known}
@@ -26,7 +25,8 @@ use Rattle.receive.specs.Reasons.{None}
 use Rattle.receive.specs.Receive.{isNdp, fixedLen, isClean, reasons, receiveOf}
 use Rattle.receive.specs.Told.{told}
 use Rattle.receive.specs.Whole.{Reached, start, on, isWhole, Whole}
-use Rattle.receive.proofs.Theorems.{other, accepted-exactly}
+use Rattle.receive.proofs.Types.{Kind, solicits-routers, advertises-router, solicits-neighbor, advertises-neighbor, redirects, other, view}
+use Rattle.receive.proofs.Theorems.{accepted-exactly}
 
 is-clean : (e : Ending) → isClean e ≡ true → e ≡ Clean
 is-clean Clean h = refl
@@ -35,18 +35,15 @@ is-clean (RefusedAt at why) h = absurd (false≢true h)
 -- the table has each of the five types with code 0
 known-0 : (t : ℕ) → isNdp t ≡ true → known t 0 ≡ true
 unfolding known
-known-0 t h =
-    cases t 133 (λ e. rw e)
-    (λ n133.
-    cases t 134 (λ e. rw e)
-    (λ n134.
-    cases t 135 (λ e. rw e)
-    (λ n135.
-    cases t 136 (λ e. rw e)
-    (λ n136.
-    cases t 137 (λ e. rw e)
-    (λ n137.
-    absurd (false≢true (sym (other t n133 n134 n135 n136 n137) ∙ h)))))))
+known-0 t h = by (view t) h
+  where
+    by : {t : ℕ} → Kind t → isNdp t ≡ true → known t 0 ≡ true
+    by solicits-routers h = refl
+    by advertises-router h = refl
+    by solicits-neighbor h = refl
+    by advertises-neighbor h = refl
+    by redirects h = refl
+    by (other out alone) h = absurd (false≢true (sym out ∙ h))
 
 module _ (s : List ℕ) where
   -- the walk from a place that was reached ends as the whole walk does

@@ -152,6 +152,7 @@ fn first_reason(packet: &[u8], hop_limit: u8, source: &[u8; 16], destination: &[
     ensures { λ r. ⌜ r ≡ firstOf (reasons «hop_limit» (now (source .entry)) (now (destination .entry)) (now (packet .entry))) ⌝ }
 {
     let kind = packet[0];
+    let code = packet[1];
     if !is_ndp(kind) {
         if validates(packet, source, destination) {
             return 0;
@@ -164,7 +165,7 @@ fn first_reason(packet: &[u8], hop_limit: u8, source: &[u8; 16], destination: &[
     if !validates(packet, source, destination) {
         return 2;
     }
-    if packet[1] != 0 {
+    if code != 0 {
         return 3;
     }
     let fixed = fixed_len(kind);

@@ -1,12 +1,14 @@
 // The calls of compare/FORMAT.md: the name of each, and what the library answers.
+use crate::lists;
 use crate::numbers;
 use crate::numbers::Told;
 use crate::options;
+use crate::payload;
 use crate::types;
 use crate::walk;
 
 // Writes the name of a call.
-pub fn name(call: u8) {
+pub(crate) fn name(call: u8) {
     match call {
         1 => write(b"Icmpv6Slice"),
         2 => write(b"Icmpv6Slice::icmp_type"),
@@ -22,11 +24,19 @@ pub fn name(call: u8) {
         12 => write(b"RedirectedHeaderOptionSlice"),
         13 => write(b"NdpOptionsIterator"),
         14 => write(b"NdpOptionsIterator up to an absent reader"),
+        15 => write(b"Icmpv6PayloadSlice::from_slice"),
+        16 => write(b"Icmpv6PayloadSlice::from_slice up to an absent reader"),
+        17 => write(b"Icmpv6Slice::payload_slice"),
+        18 => write(b"Icmpv6Slice::payload_slice up to an absent reader"),
+        19 => write(b"RouterAdvertisementPayloadSlice"),
+        20 => write(b"RedirectPayloadSlice"),
+        21 => write(b"NdpOptionsIterator, counted"),
+        22 => write(b"NdpOptionsIterator, a type looked for"),
         _ => write(b"another call"),
     }
 }
 
-pub fn write(text: &[u8]) {
+pub(crate) fn write(text: &[u8]) {
     io::write_all(libc::STDOUT_FILENO, text);
 }
 
@@ -44,12 +54,20 @@ fn told_by(call: u8, input: &[u8]) -> Told {
         10 => options::prefix_to_bytes(input),
         11 => options::mtu(input),
         12 => options::redirected_header(input),
+        15 => payload::of_type(input, false),
+        16 => payload::of_type(input, true),
+        17 => payload::of_packet(input, false),
+        18 => payload::of_packet(input, true),
+        19 => payload::of_advertisement(input),
+        20 => payload::of_redirect(input),
+        21 => lists::counted(input),
+        22 => lists::has_type(input),
         _ => numbers::nothing(),
     }
 }
 
 // The place in a vector's answer up to which the library's own is met.
-pub fn met(call: u8, input: &[u8], answer: &[u8]) -> usize {
+pub(crate) fn met(call: u8, input: &[u8], answer: &[u8]) -> usize {
     match call {
         13 => walk::met(input, answer, false),
         14 => walk::met(input, answer, true),

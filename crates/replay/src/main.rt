@@ -5,8 +5,10 @@ ghost use Prim.Native.Nat.{_+_, _<_, _≤_};
 ghost use lib.ListN.{length};
 
 mod answers;
+mod lists;
 mod numbers;
 mod options;
+mod payload;
 mod types;
 mod walk;
 

@@ -3,29 +3,29 @@ ghost use Prim.Native.Nat.{_<_, _≤_};
 use refusal::Refusal;
 
 // The first `count` of the values are the answer; no single answer has more.
-pub struct Told {
+pub(crate) struct Told {
     pub count: usize,
-    pub values: [u64; 11],
+    pub values: [u64; 12],
 }
 
 // A place that no answer has: something before it was not met.
 const BEYOND: usize = 4294967295;
 
 // No answer at all: no vector has this.
-pub fn nothing() -> Told {
+pub(crate) fn nothing() -> Told {
     tell(0, 0, 0, 0, 0, 0, 0)
 }
 
 // An answer of up to six numbers.
-pub fn tell(count: usize, a: u64, b: u64, c: u64, d: u64, e: u64, f: u64) -> Told {
+pub(crate) fn tell(count: usize, a: u64, b: u64, c: u64, d: u64, e: u64, f: u64) -> Told {
     Told {
         count,
-        values: [a, b, c, d, e, f, 0, 0, 0, 0, 0],
+        values: [a, b, c, d, e, f, 0, 0, 0, 0, 0, 0],
     }
 }
 
 // A refusal: its number, and what it carries.
-pub fn refused(why: Refusal) -> Told {
+pub(crate) fn refused(why: Refusal) -> Told {
     let n = why.numbers();
     let v = n.values;
     tell(
@@ -39,19 +39,33 @@ pub fn refused(why: Refusal) -> Told {
     )
 }
 
-pub fn flag(set: bool) -> u64 {
+// A refusal of an option list, and its place.
+pub(crate) fn refused_at(why: Refusal, place: usize) -> Told {
+    let n = why.numbers();
+    let v = n.values;
+    let count = n.count;
+    if count == 1 {
+        return tell(3, n.number as u64, v[0], place as u64, 0, 0, 0);
+    }
+    if count == 3 {
+        return tell(5, n.number as u64, v[0], v[1], v[2], place as u64, 0);
+    }
+    nothing()
+}
+
+pub(crate) fn flag(set: bool) -> u64 {
     if set { 1 } else { 0 }
 }
 
 // Two bytes, the high one first.
-pub fn word(high: u8, low: u8) -> usize
+pub(crate) fn word(high: u8, low: u8) -> usize
     ensures { λ r. ⌜ r ≤ 65535 ⌝ }
 {
     256 * high as usize + low as usize
 }
 
 // Four bytes as one number.
-pub fn long(a: u8, b: u8, c: u8, d: u8) -> u64 {
+pub(crate) fn long(a: u8, b: u8, c: u8, d: u8) -> u64 {
     wire::u32_from_be(a, b, c, d) as u64
 }
 
@@ -71,12 +85,12 @@ fn met_one(answer: &[u8], at: usize, n: u64) -> usize {
 }
 
 // The place behind an answer whose numbers stand at a place.
-pub fn met(answer: &[u8], at: usize, t: Told) -> usize {
+pub(crate) fn met(answer: &[u8], at: usize, t: Told) -> usize {
     let values = t.values;
     let count = t.count;
     let mut to = at;
     let mut i: usize = 0;
-    while i < 11 {
+    while i < 12 {
         to = if i < count {
             met_one(answer, to, values[i])
         } else {
@@ -88,7 +102,7 @@ pub fn met(answer: &[u8], at: usize, t: Told) -> usize {
 }
 
 // Where a part that was handed back lies, if it is the rest of the input: else no place that a vector has.
-pub fn place_of(input: &[u8], rest: &[u8]) -> u64 {
+pub(crate) fn place_of(input: &[u8], rest: &[u8]) -> u64 {
     if input.len() < rest.len() {
         return 4294967296;
     }
@@ -101,7 +115,7 @@ pub fn place_of(input: &[u8], rest: &[u8]) -> u64 {
 }
 
 // How many turns a loop still has: none, where it does not go on.
-pub fn fewer(left: u64, going: bool) -> u64
+pub(crate) fn fewer(left: u64, going: bool) -> u64
     requires { ⌜ 0 < left ⌝ }
     ensures { λ r. ⌜ r < left ⌝ }
 {

@@ -10,7 +10,7 @@ use ndp_option_read::NdpOptionRead;
 use prefix_information::PrefixInformation;
 use prefix_information::PrefixInformationRead;
 
-pub fn header_from_slice(input: &[u8]) -> Told {
+pub(crate) fn header_from_slice(input: &[u8]) -> Told {
     match NdpOptionHeader::from_slice(input) {
         HeaderRead::Header(h) => {
             let rest = ndp_option_header::behind_header(input);
@@ -28,7 +28,7 @@ pub fn header_from_slice(input: &[u8]) -> Told {
     }
 }
 
-pub fn header_bytes(input: &[u8]) -> Told {
+pub(crate) fn header_bytes(input: &[u8]) -> Told {
     if input.len() != 2 {
         return numbers::nothing();
     }
@@ -61,6 +61,7 @@ fn information_told(p: PrefixInformation) -> Told {
             numbers::long(b[8], b[9], b[10], b[11]),
             numbers::long(b[12], b[13], b[14], b[15]),
             0,
+            0,
         ],
     }
 }
@@ -73,7 +74,7 @@ fn prefix_told(read: PrefixInformationRead) -> Told {
     }
 }
 
-pub fn prefix_from_slice(input: &[u8]) -> Told {
+pub(crate) fn prefix_from_slice(input: &[u8]) -> Told {
     prefix_told(PrefixInformation::from_slice(input))
 }
 
@@ -92,7 +93,7 @@ fn byte_at(s: &[u8], i: usize) -> u8 {
     if i < s.len() { s[i] } else { 0 }
 }
 
-pub fn prefix_from_bytes(input: &[u8]) -> Told {
+pub(crate) fn prefix_from_bytes(input: &[u8]) -> Told {
     prefix_told(PrefixInformation::from_bytes(bytes_from(input, 0)))
 }
 
@@ -128,7 +129,7 @@ fn information_of(v: &[u8]) -> PrefixInformation {
 }
 
 // The first byte is told as 0: the vectors leave it out.
-pub fn prefix_to_bytes(input: &[u8]) -> Told {
+pub(crate) fn prefix_to_bytes(input: &[u8]) -> Told {
     let p = information_of(input);
     let b = p.to_bytes();
     Told {
@@ -145,18 +146,19 @@ pub fn prefix_to_bytes(input: &[u8]) -> Told {
             numbers::long(b[28], b[29], b[30], b[31]),
             0,
             0,
+            0,
         ],
     }
 }
 
-pub fn mtu(input: &[u8]) -> Told {
+pub(crate) fn mtu(input: &[u8]) -> Told {
     match MtuOption::from_slice(input) {
         MtuOption::Mtu(mtu) => tell(3, 0, 5, mtu as u64, 0, 0, 0),
         MtuOption::Refused(why) => numbers::refused(why),
     }
 }
 
-pub fn redirected_header(input: &[u8]) -> Told {
+pub(crate) fn redirected_header(input: &[u8]) -> Told {
     match redirected_header_option::from_slice(input) {
         NdpOptionRead::Accepted => {
             let packet = redirected_header_option::redirected_packet(input);

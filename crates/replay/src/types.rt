@@ -9,13 +9,13 @@ use icmpv6::icmpv6_slice::Parts;
 use icmpv6_headers::router_advertisement_header::RouterAdvertisementHeader;
 use icmpv6_type::Icmpv6Type;
 
-pub enum Value {
+pub(crate) enum Value {
     Of(Icmpv6Type),
     Not,
 }
 
 // An advertisement's head from five bytes: the hop limit, M, O and the lifetime.
-fn router_of(hop: u8, m: u8, o: u8, high: u8, low: u8) -> RouterAdvertisementHeader {
+pub(crate) fn router_of(hop: u8, m: u8, o: u8, high: u8, low: u8) -> RouterAdvertisementHeader {
     RouterAdvertisementHeader {
         cur_hop_limit: hop,
         managed_address_config: m != 0,
@@ -25,7 +25,7 @@ fn router_of(hop: u8, m: u8, o: u8, high: u8, low: u8) -> RouterAdvertisementHea
 }
 
 // A type value from seven bytes: its kind, 0 for Unknown, and six for its fields.
-pub fn value_of(v: &[u8]) -> Value {
+pub(crate) fn value_of(v: &[u8]) -> Value {
     if v.len() < 7 {
         return Value::Not;
     }
@@ -46,7 +46,7 @@ pub fn value_of(v: &[u8]) -> Value {
 }
 
 // The parts of a packet as they stand; not the checksum, which the vectors leave out.
-pub fn packet(input: &[u8]) -> Told {
+pub(crate) fn packet(input: &[u8]) -> Told {
     match icmpv6_slice::head_parts(input) {
         Parts::Head(h) => {
             let payload = icmpv6_slice::payload(input);
@@ -93,7 +93,7 @@ fn type_told(t: Icmpv6Type) -> Told {
     }
 }
 
-pub fn icmp_type(input: &[u8]) -> Told {
+pub(crate) fn icmp_type(input: &[u8]) -> Told {
     match Icmpv6Header::from_slice(input) {
         HeaderRead::Header(h) => {
             let t = h.icmp_type;
@@ -121,7 +121,7 @@ fn bytes_told(t: Icmpv6Type, checksum: u16) -> Told {
 }
 
 // A type value, and the checksum in two bytes.
-pub fn header_to_bytes(input: &[u8]) -> Told {
+pub(crate) fn header_to_bytes(input: &[u8]) -> Told {
     if input.len() != 9 {
         return numbers::nothing();
     }
@@ -132,7 +132,7 @@ pub fn header_to_bytes(input: &[u8]) -> Told {
     }
 }
 
-pub fn router_from_bytes(input: &[u8]) -> Told {
+pub(crate) fn router_from_bytes(input: &[u8]) -> Told {
     if input.len() != 4 {
         return numbers::nothing();
     }
@@ -142,7 +142,7 @@ pub fn router_from_bytes(input: &[u8]) -> Told {
     )
 }
 
-pub fn router_to_bytes(input: &[u8]) -> Told {
+pub(crate) fn router_to_bytes(input: &[u8]) -> Told {
     if input.len() != 5 {
         return numbers::nothing();
     }

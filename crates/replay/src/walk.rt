@@ -63,8 +63,7 @@ fn step(input: &[u8], answer: &[u8], w: Walking) -> Walking {
             if !is_stopped(input, next) {
                 return last(answer, w, numbers::nothing());
             }
-            let refused = last(answer, w, numbers::refused(why));
-            last(answer, refused, tell(1, place as u64, 0, 0, 0, 0, 0))
+            last(answer, w, numbers::refused_at(why, place))
         }
         Step::Stopped => last(answer, w, numbers::nothing()),
     }
@@ -129,7 +128,7 @@ fn next(input: &[u8], answer: &[u8], w: Walking, to_absent: bool) -> Walking {
 }
 
 // The place in the answer up to which the walk was met.
-pub fn met(input: &[u8], answer: &[u8], to_absent: bool) -> usize {
+pub(crate) fn met(input: &[u8], answer: &[u8], to_absent: bool) -> usize {
     let mut w = Walking {
         place: 0,
         met: 0,

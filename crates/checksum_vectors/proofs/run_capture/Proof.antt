@@ -1,17 +1,16 @@
 -- `run_capture` is safe: a record has 37 bytes or more, and no more survivors than bytes.
 -- Assumes nothing.
 use Prim.Native.Nat.{_-_, _≤_}
-use native.Mathlib.Omega.{arith}
 use borrow.Author.Needs.{needs}
-use lib.ListN.{length, length-take, length-drop}
+use lib.ListN.{length}
 use Rattle.checksum_vectors.proofs.run_capture.Statement.{statement}
 use Rattle.checksum_vectors.proofs.run_capture.Tie as tie
 
 abbrev Inv-loop : tie.InvT-loop
-Inv-loop capture at₀ records₀ survivors₀ at records survivors = (at ≤ length capture) × (records ≤ at) × (survivors ≤ at)
+Inv-loop capture at₀ records₀ headers₀ survivors₀ at records headers survivors = (at ≤ length capture) × (records ≤ at) × (headers ≤ at) × (survivors ≤ at)
 
 abbrev μ-loop : tie.MeasureT-loop
-μ-loop capture at₀ records₀ survivors₀ at records survivors = length capture - at
+μ-loop capture at₀ records₀ headers₀ survivors₀ at records headers survivors = length capture - at
 
 loop-holds : tie.Need-loop-holds Inv-loop μ-loop
 loop-holds c = search needs
@@ -70,6 +69,9 @@ part-run-record-end-2 c = search needs
 run-record-requires : tie.Need-run-record-requires Inv-loop μ-loop
 run-record-requires c κs = search needs
 
+add-headers : tie.Need-add-headers Inv-loop μ-loop
+add-headers c = search needs
+
 add-survivors : tie.Need-add-survivors Inv-loop μ-loop
 add-survivors c = search needs
 
@@ -116,6 +118,7 @@ run-capture-spec =
     part-run-record-start-2
     part-run-record-end-2
     run-record-requires
+    add-headers
     add-survivors
     add-at
     loop-less

@@ -21,18 +21,21 @@ use Rattle.receive.proofs.first_reason.Tie as tie
 shared-slice-read-kind : tie.Need-shared-slice-read-kind
 shared-slice-read-kind c = search needs
 
+shared-slice-read-code : tie.Need-shared-slice-read-code
+shared-slice-read-code c = search needs
+
 is-ndp-requires : tie.Need-is-ndp-requires
 is-ndp-requires c κs = search needs
 
 -- the type is one of Neighbor Discovery, or not
-other : (c : tie.Then1) → isNdp (getD (c .before .before .before .before .args .packet .now) 0 0) ≡ false
+other : (c : tie.Then1) → isNdp (getD (c .before .before .before .before .before .args .packet .now) 0 0) ≡ false
 other c = sym (c .before .is-ndp .ensures) ∙ not-true _ (c .if1 .taken)
 
-ndp : (c : tie.Else1) → isNdp (getD (c .before .before .before .before .args .packet .now) 0 0) ≡ true
+ndp : (c : tie.Else1) → isNdp (getD (c .before .before .before .before .before .args .packet .now) 0 0) ≡ true
 ndp c = sym (c .before .is-ndp .ensures) ∙ not-false _ (c .if1 .left)
 
-full : (c : tie.Else3) → eqb (c .before .before .before .before .before .args .hop-limit) 255 ≡ true
-full c = eq-eqb (c .before .before .before .before .before .args .hop-limit) 255 (omega arith)
+full : (c : tie.Else3) → eqb (c .before .before .before .before .before .before .args .hop-limit) 255 ≡ true
+full c = eq-eqb (c .before .before .before .before .before .before .args .hop-limit) 255 (omega arith)
 
 validates-requires : tie.Need-validates-requires
 validates-requires c κs = search needs
@@ -47,7 +50,7 @@ returns-2 c = simp (other (c .before .before), ← (c .before .validates .ensure
 
 returns-3 : tie.Need-returns-3
 unfolding reasons firstOf
-returns-3 c = simp (ndp (c .before), ne-eqb (c .before .before .before .before .before .args .hop-limit) 255 (λ z. omega arith))
+returns-3 c = simp (ndp (c .before), ne-eqb (c .before .before .before .before .before .before .args .hop-limit) 255 (λ z. omega arith))
 
 validates-requires-2 : tie.Need-validates-requires-2
 validates-requires-2 c κs = search needs
@@ -56,12 +59,9 @@ returns-4 : tie.Need-returns-4
 unfolding reasons firstOf
 returns-4 c = let h = c .before .before in simp (ndp (h .before), full h, ← (c .before .validates2 .ensures), c .if4 .taken)
 
-shared-slice-read-if5 : tie.Need-shared-slice-read-if5
-shared-slice-read-if5 c = search needs
-
 returns-5 : tie.Need-returns-5
 unfolding reasons firstOf
-returns-5 c = let v = c .before .before in let h = v .before .before in simp (ndp (h .before), full h, ← (v .before .validates2 .ensures), v .if4 .left, ne-eqb _ _ (c .if5 .taken))
+returns-5 c = let v = c .before in let h = v .before .before in simp (ndp (h .before), full h, ← (v .before .validates2 .ensures), v .if4 .left, ne-eqb _ _ (c .if5 .taken))
 
 fixed-len-requires : tie.Need-fixed-len-requires
 fixed-len-requires c κs = search needs
@@ -80,7 +80,7 @@ past-code : (c : tie.After-fixed-len) →
     (firstOf (ownOf type (a .source .now) (a .destination .now) (a .packet .now) (occurs 1 (options .items)))))
 unfolding reasons firstOf
 past-code c =
-    let v = c .before .before .before in
+    let v = c .before .before in
     let h = v .before .before in
     simp (ndp (h .before), full h, ← (v .before .validates2 .ensures), v .if4 .left, eq-eqb _ _ (c .before .if5 .left))
 
@@ -159,6 +159,7 @@ first-reason-spec =
     tie.close
     (tie.spec
     shared-slice-read-kind
+    shared-slice-read-code
     is-ndp-requires
     validates-requires
     returns
@@ -166,7 +167,6 @@ first-reason-spec =
     returns-3
     validates-requires-2
     returns-4
-    shared-slice-read-if5
     returns-5
     fixed-len-requires
     sub-if6

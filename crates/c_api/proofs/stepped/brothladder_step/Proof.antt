@@ -21,17 +21,26 @@ cast-t16 c = search needs
 enum-told : tie.Need-enum-told
 enum-told c = search needs
 
+bare-requires : tie.Need-bare-requires
+bare-requires c κs = search needs
+
 enum-known-why : tie.Need-enum-known-why
 enum-known-why c = search needs
 
 numbers-requires : tie.Need-numbers-requires
 numbers-requires c κs = search needs
 
-cast-t18 : tie.Need-cast-t18
-cast-t18 c = search needs
+cast-bare : tie.Need-cast-bare
+cast-bare c = search needs
+
+bare-requires-2 : tie.Need-bare-requires-2
+bare-requires-2 c κs = search needs
 
 enum-told-2 : tie.Need-enum-told-2
 enum-told-2 c = search needs
+
+bare-requires-3 : tie.Need-bare-requires-3
+bare-requires-3 c κs = search needs
 
 returns : tie.Need-returns
 unfolding steppedFor
@@ -39,15 +48,15 @@ returns c = rw (c .before .kind-number .ensures, ← (c .before .before .before 
 
 returns-2 : tie.Need-returns-2
 unfolding steppedFor
-returns-2 c = rw (← (c .before .before .step .ensures), c .enum-told .given .1)
+returns-2 c = rw (c .bare .ensures, ← (c .before .before .before .step .ensures), c .before .enum-told .given .1)
 
 returns-3 : tie.Need-returns-3
 unfolding steppedFor
-returns-3 c = rw (c .before .before .numbers .ensures, ← (c .before .before .before .before .before .before .step .ensures), c .before .before .before .before .why .given .1, refusal-numbered)
+returns-3 c = rw (c .bare2 .ensures, c .before .before .before .numbers .ensures, ← (c .before .before .before .before .before .before .before .step .ensures), c .before .before .before .before .before .why .given .1, refusal-numbered)
 
 returns-4 : tie.Need-returns-4
 unfolding steppedFor
-returns-4 c = rw (← (c .before .before .step .ensures), c .enum-told2 .given .1)
+returns-4 c = rw (c .bare3 .ensures, ← (c .before .before .before .step .ensures), c .before .enum-told2 .given .1)
 
 pub brothladder-step-spec : {M : Type 1} → statement M
 brothladder-step-spec =
@@ -58,10 +67,13 @@ brothladder-step-spec =
     kind-number-requires
     cast-t16
     enum-told
+    bare-requires
     enum-known-why
     numbers-requires
-    cast-t18
+    cast-bare
+    bare-requires-2
     enum-told-2
+    bare-requires-3
     returns
     returns-2
     returns-3

@@ -6,10 +6,10 @@ use Rattle.replay.proofs.numbers.met.Statement.{statement}
 use Rattle.replay.proofs.numbers.met.Tie as tie
 
 abbrev Inv-loop : tie.InvT-loop
-Inv-loop answer at values count to₀ i₀ to i = i ≤ 11
+Inv-loop answer at values count to₀ i₀ to i = i ≤ 12
 
 abbrev μ-loop : tie.MeasureT-loop
-μ-loop answer at values count to₀ i₀ to i = 11 - i
+μ-loop answer at values count to₀ i₀ to i = 12 - i
 
 loop-holds : tie.Need-loop-holds Inv-loop μ-loop
 loop-holds c = search needs

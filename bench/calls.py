@@ -1,0 +1,96 @@
+"""calls.py PAGE: the two tables of what bench/calls measured, printed and written into PAGE between their marks. Run in target/bench_calls.
+
+The stack of a call is read from the code: what a function pushes and reserves, the part below its stack pointer that it uses (the red zone of the
+x86-64 ABI), and the deepest of what it calls. No call is indirect and none comes back to itself, which is tested."""
+import re
+import sys
+from functools import lru_cache
+
+CALLS = ["decode", "verify", "receive", "step", "read_prefix", "write"]
+AIM_CODE, AIM_STACK = 16 * 1024, 512
+
+# ---- instructions
+names = {int(l.split(";")[0]): tuple(l.strip().split(";")[1:]) for l in open("names.txt")}
+counts = {}
+for line in open("counts.txt"):
+    who, length, insns, _, _ = map(int, line.split())
+    if who in names:
+        counts[names[who] + (length,)] = insns
+small, large = sorted({k[2] for k in counts})
+sets = [s for s in dict.fromkeys(k[0] for k in names.values()) if s != "nothing"]
+
+
+def cost(who, call, length):
+    # the two instructions of the empty call are its own; the loop of a walk is the caller's, and is counted
+    return counts[who, call, length] - counts["nothing", call, length] + (0 if call == "walk" else 2)
+
+
+columns = [("decode", small), ("receive check", small), ("receive check", large), ("walk", small), ("walk", large), ("prefix", small), ("write", small), ("write", large)]
+rows = ["| | " + " | ".join(f"{c}, {n}" if c not in ("decode", "prefix") else c for c, n in columns) + " |", "|---|" + "---|" * len(columns)]
+rows += [f"| {who} | " + " | ".join(f"{cost(who, c, n):,}" for c, n in columns) + " |" for who in sets]
+
+# ---- code
+code, section = {}, None
+for line in open("library.dis"):
+    if m := re.match(r"Disassembly of section \.text\.?(.*):", line):
+        section = m.group(1)
+        code[section] = []
+    elif section is not None and (m := re.match(r"\s+([0-9a-f]+):\s+(.*)", line)):
+        code[section].append((int(m.group(1), 16), m.group(2)))
+sizes = {m.group(1): int(m.group(2), 16) for m in re.finditer(r"\.text\.(\S+)\s+PROGBITS\s+\S+\s+\S+\s+(\w+)", open("library.elf").read())}
+tables = sum(int(m.group(1), 16) for m in re.finditer(r"\.rodata\S*\s+PROGBITS\s+\S+\s+\S+\s+(\w+)", open("library.elf").read()))
+uses = {}
+for f, lines in code.items():
+    called = set()
+    for i, (_, text) in enumerate(lines):
+        assert not re.match(r"(call|jmp)\s+\*(?!%r)", text) and not re.match(r"call\s+\*", text), f"{f} calls through a pointer"
+        target = re.search(r"R_X86_64_PLT32\s+(?:\.text\.)?(\S+?)[-+]0x\w+$", text)
+        if target:
+            called.add(target.group(1))
+    uses[f] = called
+    assert called <= set(code), (f, called - set(code))
+
+
+def frame(f):
+    pushed = {t for _, t in code[f] if t.startswith("push")}
+    reserved = [int(m.group(1), 16) for _, t in code[f] if (m := re.match(r"sub\s+\$0x(\w+),%rsp", t))]
+    red = [int(m.group(1), 16) for _, t in code[f] if (m := re.search(r"-0x(\w+)\(%rsp", t))]
+    return 8 * len(pushed) + max(reserved, default=0), max(red, default=0)
+
+
+@lru_cache(None)
+def depth(f):
+    """with the address to return to"""
+    own, red = frame(f)
+    return 8 + own + max([red] + [depth(g) for g in uses[f]])
+
+
+@lru_cache(None)
+def reached(f):
+    return frozenset({f}).union(*[reached(g) for g in uses[f]])
+
+
+whole = sum(sizes.values())
+size_rows = ["| call | its own code | with all that it calls | stack |", "|---|---|---|---|"]
+exported = ["brothladder_" + c for c in CALLS if "brothladder_" + c in sizes]
+for f in exported:
+    size_rows.append(f"| `{f}` | {sizes[f]:,} | {sum(sizes[g] for g in reached(f)):,} | {depth(f)} |")
+size_rows.append(f"| the whole library | {whole:,} | and {tables:,} of constants and jump tables | {max(depth(f) for f in exported)} |")
+asks = [l for l in open("library.asks") if " U " in l]
+kinds = sorted(set(re.findall(r"R_X86_64_\w+", open("library.elf").read())))
+xmm = sum("%xmm" in t for lines in code.values() for _, t in lines)
+red = sorted(f for f in code if frame(f)[1])
+plain = ", ".join(f"{t} {n}" for t, n in (l.split() for l in open("plain.sizes")))
+notes = (f"Symbols asked of the outside (`nm -u`): {len(asks) or 'none'}. Relocations: {', '.join(kinds)}. Writable data: none. Instructions on the "
+         f"registers xmm0 to xmm15: {xmm}. Functions that use the red zone: {', '.join('`' + f + '`' for f in red) or 'none'}. "
+         f"Plain C, code and constants together: {plain}.")
+
+page = open(sys.argv[1]).read()
+for mark, table in (("instructions", rows), ("size", size_rows + ["", notes])):
+    start, end = f"<!-- bench/calls writes {mark} from here -->\n", f"<!-- {mark} to here -->\n"
+    head, rest = page.split(start)
+    page = head + start + "\n" + "\n".join(table) + "\n\n" + end + rest.split(end)[1]
+    print("\n".join(table), end="\n\n")
+open(sys.argv[1], "w").write(page)
+if asks or whole + tables >= AIM_CODE or max(depth(f) for f in exported) >= AIM_STACK or set(kinds) - {"R_X86_64_PC32", "R_X86_64_PLT32"}:
+    sys.exit("the library misses an aim of docs/BENCHMARKS.md")

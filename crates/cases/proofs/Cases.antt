@@ -1,0 +1,21 @@
+-- Every case of the table holds: each side of each claim computes to the other.
+-- Assumes nothing.
+use mathlib.Core.Path.{refl}
+use Rattle.message_table.specs.Table.{known, fixedPart}
+use Rattle.packet_length.specs.Length.{sized}
+use Rattle.icmpv6_type.specs.Value.{typeOf}
+use Rattle.icmpv6.specs.Head.{decodeOf}
+use Rattle.ndp_walk.specs.Judge.{judge}
+use Rattle.ndp_walk.specs.Walk.{walkOn, walkFrom}
+use Rattle.ndp_walk.specs.Step.{stepBy}
+use Rattle.ndp_options.specs.Rule.{rule}
+use Rattle.ndp_option_read.specs.Rule.{exactlyOf}
+use Rattle.prefix_information.specs.Prefix.{prefixOf}
+use Rattle.checksum.specs.Ones.{_⊕_}
+use Rattle.checksum.specs.Icmpv6.{sumOf, verdictOf}
+use Rattle.icmpv6_payload_slice.specs.Dispatch.{payloadOf}
+use Rattle.cases.specs.Table.{table, All}
+
+pub hold : All table
+unfolding known fixedPart sized typeOf decodeOf judge walkOn walkFrom stepBy rule exactlyOf prefixOf _⊕_ sumOf verdictOf payloadOf
+hold = (refl, (refl, (refl, (refl, (refl, (refl, (refl, (refl, (refl, (refl, (refl, (refl, (refl, (refl, (refl, (refl, (refl, (refl, tt))))))))))))))))))

@@ -1,0 +1,110 @@
+-- Document 01, "Cases with their results", P1 to P14: what each call answers, as one table over the definitions that the calls promise.
+-- Assumes nothing.
+use Prim.Native.Nat.{ℕ}
+use mathlib.Core.Path.{_≡_}
+use mathlib.Core.Bool.{true}
+use mathlib.Core.List.{List, [], _∷_, _++_}
+use lib.ListN.{replicate}
+use Rattle.paper.specs.Paper.{Paper, refuses, gives}
+use Rattle.icmpv6.specs.Head.{decodeOf}
+use Rattle.ndp_walk.specs.Walk.{Walk, clean, refused}
+use Rattle.ndp_walk.specs.Step.{Told, told, ended, stopped}
+use Rattle.ndp_options.specs.Walk.{walk, stepOf}
+use Rattle.prefix_information.specs.declared.PrefixInformation.{PrefixInformation}
+use Rattle.prefix_information.specs.Prefix.{prefixOf, informationAt, bytesOf, nothing}
+use Rattle.prefix_information.specs.Prefix as prefix
+use Rattle.checksum.specs.Icmpv6.{verdictOf, valid, invalid}
+use Rattle.icmpv6_payload_slice.specs.Dispatch.{payloadOf}
+
+-- a call, what it is given, and what it answers
+pub data Case : Type 0 where
+  decodes : List ℕ → Paper → Case
+  walks : List ℕ → Walk → Case
+  steps : List ℕ → ℕ → Told → Case
+  reads : List ℕ → Paper → PrefixInformation → Case
+  rewrites : List ℕ → List ℕ → Case
+  validates : List ℕ → List ℕ → List ℕ → Paper → Case
+  dispatches : ℕ → List ℕ → Paper → Case
+
+abbrev pub Claim : Case → Type 0
+Claim (decodes packet answer) = decodeOf packet ≡ answer
+Claim (walks options answer) = walk options ≡ answer
+Claim (steps options at answer) = stepOf options at ≡ answer
+Claim (reads option answer information) = prefixOf option ≡ prefix.told answer information
+Claim (rewrites option bytes) = bytesOf (informationAt option) ≡ bytes
+Claim (validates source destination packet answer) = verdictOf source destination packet ≡ answer
+Claim (dispatches kind payload answer) = payloadOf kind payload ≡ answer
+
+abbrev zeros : ℕ → List ℕ
+zeros n = replicate n 0
+
+-- fe80::1 and ff02::2
+abbrev router : List ℕ
+router = 0xfe ∷ 0x80 ∷ (zeros 13 ++ 1 ∷ [])
+
+abbrev everyone : List ℕ
+everyone = 0xff ∷ 0x02 ∷ (zeros 13 ++ 2 ∷ [])
+
+-- the first packet of the dump's listing, with a field
+abbrev solicitation : ℕ → ℕ → List ℕ
+solicitation a b = 0x85 ∷ 0 ∷ a ∷ b ∷ 0 ∷ 0 ∷ 0 ∷ 0 ∷ 1 ∷ 1 ∷ 2 ∷ 0 ∷ 0 ∷ 0 ∷ 0 ∷ 1 ∷ []
+
+abbrev echo : ℕ → ℕ → List ℕ
+echo a b = 0x80 ∷ 0 ∷ a ∷ b ∷ 0x7f ∷ 0xbd ∷ 0 ∷ 0 ∷ []
+
+-- P9's option with these flags
+abbrev option : ℕ → List ℕ
+option flags =
+    3 ∷ 4 ∷ 0x40 ∷ flags ∷ 0 ∷ 1 ∷ 0x51 ∷ 0x80 ∷ 0 ∷ 0 ∷ 0x38 ∷ 0x40 ∷ (zeros 4 ++ (0x20 ∷ 1 ∷ 0x0d ∷ 0xb8 ∷ zeros 12))
+
+-- 64, both flags, 86,400, 14,400
+abbrev information : PrefixInformation
+information =
+    record {
+      «prefix_length» = 64;
+      «on_link» = true;
+      «autonomous_address_configuration» = true;
+      «valid_lifetime» = 86400;
+      «preferred_lifetime» = 14400;
+      prefix = 0x20 ∷ 1 ∷ 0x0d ∷ 0xb8 ∷ zeros 12;
+    }
+
+abbrev pub table : List Case
+table =
+    -- P1 7 bytes: 1 (8, 7)
+    decodes (zeros 7) (refuses 1 (8 ∷ 7 ∷ []))
+    -- P2 type 128 code 1: Unknown
+    ∷ decodes (128 ∷ 1 ∷ zeros 6) (gives (0 ∷ 0 ∷ 128 ∷ 1 ∷ 0 ∷ []))
+    -- P3 02 00 00 00 00 00 05 00: too big, MTU 1,280
+    ∷ decodes (2 ∷ zeros 5 ++ (5 ∷ 0 ∷ [])) (gives (0 ∷ 2 ∷ 1280 ∷ []))
+    -- P4 no options: End
+    ∷ walks [] clean
+    ∷ steps [] 0 ended
+    -- P5 01: 5 (1, 2, 1), then Stopped
+    ∷ steps (1 ∷ []) 0 (told (refuses 5 (1 ∷ 2 ∷ 1 ∷ [])) 2)
+    ∷ steps (1 ∷ []) 2 stopped
+    -- P6 01 00: 6 (1)
+    ∷ walks (1 ∷ 0 ∷ []) (refused 0 (refuses 6 (1 ∷ [])))
+    -- P7 01 02 and six 00: 7 (1, 16, 8)
+    ∷ walks (1 ∷ 2 ∷ zeros 6) (refused 0 (refuses 7 (1 ∷ 16 ∷ 8 ∷ [])))
+    -- P8 24 bytes from 03 03: 5 (3, 32, 24)
+    ∷ reads (3 ∷ 3 ∷ zeros 22) (refuses 5 (3 ∷ 32 ∷ 24 ∷ [])) nothing
+    -- P9: 64, both flags, 86,400, 14,400
+    ∷ reads (option 0xc0) (gives []) information
+    -- P10 flags ff: same value, written c0
+    ∷ reads (option 0xff) (gives []) information
+    ∷ rewrites (option 0xff) (option 0xc0)
+    -- P11 the first dump packet validates
+    ∷ validates router everyone (solicitation 0x7a 0x2c) valid
+    -- P12 with field 7a2d it does not
+    ∷ validates router everyone (solicitation 0x7a 0x2d) invalid
+    -- P13 zero addresses: validates, also with field ff ff
+    ∷ validates (zeros 16) (zeros 16) (echo 0 0) valid
+    ∷ validates (zeros 16) (zeros 16) (echo 0xff 0xff) valid
+    -- P14 type 135, payload 15: 4 (16, 15)
+    ∷ dispatches 135 (zeros 15) (refuses 4 (16 ∷ 15 ∷ []))
+    ∷ []
+
+abbrev pub All : List Case → Type 0
+All [] = Unit
+All (c ∷ cs) = Claim c × All cs

@@ -1,0 +1,1 @@
+// Document 01's cases P1 to P14, as one table over the library's definitions. There is no code here: specs/Table.antt is the table.

@@ -1,0 +1,47 @@
+-- The five types of Neighbor Discovery and all others: what a proof about a packet's type goes by.
+-- Assumes nothing.
+use Prim.Native.Nat.{ℕ}
+use mathlib.Core.Path.{_≡_}
+use mathlib.Core.Bool.{false}
+use mathlib.Core.List.{[], _∷_}
+use native.Mathlib.Omega.{arith}
+use native.Mathlib.Decide.{decLe}
+use borrow.Author.Tests.{ne-eqb, le-leb, lt-leb}
+use Rattle.wire.proofs.Cases.{cases}
+use Rattle.receive.specs.Receive.{isNdp}
+use Rattle.receive.specs.Given.{givenFor}
+
+pub data Kind : ℕ → Type 0 where
+  solicits-routers : Kind 133
+  advertises-router : Kind 134
+  solicits-neighbor : Kind 135
+  advertises-neighbor : Kind 136
+  redirects : Kind 137
+  other : {t : ℕ} → isNdp t ≡ false → givenFor t ≡ 2 ∷ [] → Kind t
+
+module _ (t : ℕ) (n133 : t ≡ 133 → ⊥) (n134 : t ≡ 134 → ⊥) (n135 : t ≡ 135 → ⊥) (n136 : t ≡ 136 → ⊥) (n137 : t ≡ 137 → ⊥) where
+  outside : isNdp t ≡ false
+  outside = elim (decLe 133 t) [
+    | yes h ↦ elim (decLe t 137) [
+      | yes k ↦ absurd (omega arith)
+      | no k ↦ simp (lt-leb t 137 (omega arith), le-leb 133 t h)
+    ]
+    | no h ↦ simp (lt-leb 133 t (omega arith))
+  ]
+
+  checksum-alone : givenFor t ≡ 2 ∷ []
+  checksum-alone = simp (ne-eqb t 133 n133, ne-eqb t 134 n134, ne-eqb t 135 n135, ne-eqb t 136 n136, ne-eqb t 137 n137)
+
+pub view : (t : ℕ) → Kind t
+view t =
+    cases t 133 (λ e. rw e solicits-routers)
+    (λ n133.
+    cases t 134 (λ e. rw e advertises-router)
+    (λ n134.
+    cases t 135 (λ e. rw e solicits-neighbor)
+    (λ n135.
+    cases t 136 (λ e. rw e advertises-neighbor)
+    (λ n136.
+    cases t 137 (λ e. rw e redirects)
+    (λ n137.
+    other (outside t n133 n134 n135 n136 n137) (checksum-alone t n133 n134 n135 n136 n137))))))

@@ -1,0 +1,26 @@
+// Whole lists of options.
+use crate::numbers;
+use crate::numbers::Told;
+use crate::numbers::tell;
+use ndp_option_list::Counted;
+use ndp_option_list::Occurs;
+use refusal::NdpOptionType;
+
+pub(crate) fn counted(input: &[u8]) -> Told {
+    match ndp_option_list::count(input) {
+        Counted::All(n) => tell(2, 0, n as u64, 0, 0, 0, 0),
+        Counted::Refused(why, at) => numbers::refused_at(why, at),
+    }
+}
+
+// The type that is looked for, then the options.
+pub(crate) fn has_type(input: &[u8]) -> Told {
+    if input.len() == 0 {
+        return numbers::nothing();
+    }
+    match ndp_option_list::has_type(&input[1..], NdpOptionType(input[0])) {
+        Occurs::Yes => tell(2, 0, 1, 0, 0, 0, 0),
+        Occurs::No => tell(2, 0, 0, 0, 0, 0, 0),
+        Occurs::Refused(why, at) => numbers::refused_at(why, at),
+    }
+}
