@@ -1,5 +1,5 @@
-/* calls CAPTURE: each call for C and its counterpart in plain C, once each on two advertisements of a capture, between two markers that the
-   counting plugin sees (count.c). calls CAPTURE check: that all give the same answers. calls CAPTURE names: what was measured. */
+/* calls CAPTURE: each call for C and its counterpart in plain C, once each on two advertisements of a capture and on one of 1,240 bytes, between
+   two markers that the counting plugin sees (count.c). calls CAPTURE check: that all give the same answers. calls CAPTURE names: what was measured. */
 #include "plain.h"
 #include <stdio.h>
 #include <stdlib.h>
@@ -111,12 +111,27 @@ static int check(const uint8_t *r, size_t n) {
     return received0.answer != BROTHLADDER_RECEIVED || stepped0.answer != BROTHLADDER_END || written0.answer != BROTHLADDER_WRITTEN;
 }
 
+/* a record with an advertisement of 1,240 bytes: 38 prefixes and an MTU */
+static const uint8_t *longest(void) {
+    static uint8_t r[37 + 1240] = {0x49, 0x36, 255, 0xfe, 0x80};
+    static const uint8_t prefix[20] = {3, 4, 64, 0xc0, 0, 1, 0x51, 0x80, 0, 0, 0x38, 0x40, 0, 0, 0, 0, 0x20, 1, 0x0d, 0xb8};
+    static const uint8_t mtu[8] = {5, 1, 0, 0, 0, 0, 5, 0xdc};
+    uint8_t *p = r + 37;
+    r[18] = 1, r[19] = 0xff, r[20] = 2, r[34] = 1, r[35] = 1240 / 256, r[36] = 1240 % 256;
+    for (int i = 0; i < 38; i++) memcpy(p + 16 + 32 * i, prefix, sizeof prefix), p[16 + 32 * i + 21] = (uint8_t)i;
+    memcpy(p + 1232, mtu, sizeof mtu);
+    written = brothladder_write(134, 0, 0x40000708, p + 8, 1232, r + 3, r + 19, out, sizeof out);
+    memcpy(p, out, 8);
+    return r;
+}
+
 int main(int argc, char **argv) {
     static uint8_t capture[4096];
     FILE *f = fopen(argv[1], "rb");
     if (f == NULL || fread(capture, 1, sizeof capture, f) == 0) return 2;
     const uint8_t *r = capture;
-    for (int k = 0; k < 2; k++) { /* its first two records are advertisements */
+    for (int k = 0; k < 3; k++) { /* its first two records are advertisements */
+        if (k == 2) r = longest();
         size_t n = (size_t)r[35] * 256 + r[36];
         if (argc > 2 && !strcmp(argv[2], "check")) {
             if (check(r, n)) return 1;

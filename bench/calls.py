@@ -16,7 +16,7 @@ for line in open("counts.txt"):
     who, length, insns, _, _ = map(int, line.split())
     if who in names:
         counts[names[who] + (length,)] = insns
-small, large = sorted({k[2] for k in counts})
+small, large, longest = sorted({k[2] for k in counts})
 sets = [s for s in dict.fromkeys(k[0] for k in names.values()) if s != "nothing"]
 
 
@@ -25,8 +25,8 @@ def cost(who, call, length):
     return counts[who, call, length] - counts["nothing", call, length] + (0 if call == "walk" else 2)
 
 
-columns = [("decode", small), ("receive check", small), ("receive check", large), ("walk", small), ("walk", large), ("prefix", small), ("write", small), ("write", large)]
-rows = ["| | " + " | ".join(f"{c}, {n}" if c not in ("decode", "prefix") else c for c, n in columns) + " |", "|---|" + "---|" * len(columns)]
+columns = [("decode", small), ("receive check", small), ("receive check", large), ("walk", small), ("walk", large), ("prefix", small), ("write", small), ("write", large), ("write", longest)]
+rows = ["| | " + " | ".join(f"{c}, {n:,}" if c not in ("decode", "prefix") else c for c, n in columns) + " |", "|---|" + "---|" * len(columns)]
 rows += [f"| {who} | " + " | ".join(f"{cost(who, c, n):,}" for c, n in columns) + " |" for who in sets]
 
 # ---- code

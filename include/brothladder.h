@@ -33,7 +33,7 @@
  * bytes; NULL is allowed where the length is 0, and only there; nobody else writes to a buffer during the call; `out` shares no
  * byte with another buffer of the same call.
  *
- * What a call uses: under 512 bytes of stack, the red zone below the stack pointer and the xmm registers, as the x86-64 System V ABI has
+ * What a call may use: under 512 bytes of stack, the red zone below the stack pointer and the xmm registers, as the x86-64 System V ABI has
  * them: a kernel that gives its own code neither makes these calls where it does.
  *
  * What a call leaves alone: everything, but for the packet's own bytes in `out` where brothladder_write answers

@@ -63,8 +63,13 @@ int stands(enum room room, const uint8_t *bytes, size_t length) {
     return length == rooms[room].length && (length == 0 || memcmp(p, bytes, length) == 0);
 }
 
+/* where the chance begins: never 0 */
+#ifndef SEED
+#define SEED 88172645463325252u
+#endif
+
 uint64_t chance(void) {
-    static uint64_t x = 88172645463325252u;
+    static uint64_t x = SEED;
     x ^= x << 13;
     x ^= x >> 7;
     x ^= x << 17;

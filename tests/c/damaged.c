@@ -5,7 +5,9 @@
 #include <stdio.h>
 #include <string.h>
 
-enum { PACKETS = 100000 };
+#ifndef PACKETS
+#define PACKETS 100000
+#endif
 
 static const uint8_t addresses[][16] = {
     {0},                                                        /* unspecified */

@@ -21,20 +21,25 @@ use Rattle.checksum.specs.declared.Verdict.the-variants.{Valid, Invalid, Refuse
 use Rattle.receive.specs.Told.{told}
 use Rattle.receive.specs.declared.Received.{Received as ReceivedAnswer}
 use Rattle.receive.specs.declared.Received.the-variants.{Accepted, Refused as NotReceived}
+use Rattle.output.specs.Output.{writtenTold}
+use Rattle.output.specs.declared.Written.{Written as WrittenAnswer}
+use Rattle.output.specs.declared.Written.the-variants.{Length, Refused as NotWritten}
 use Rattle.ndp_options.specs.Told.{kindNumber, stepTold}
 use Rattle.ndp_options.specs.declared.Step.{Step}
 use Rattle.ndp_options.specs.declared.Step.the-variants.{Handed, End, Refused as StepRefused, Stopped}
 use Rattle.ndp_options.specs.declared.NdpOptionKind.{NdpOptionKind}
 use Rattle.ndp_options.specs.declared.NdpOptionKind.the-variants as kinds
-use Rattle.c_api.specs.Answer.{UNKNOWN, VALID, INVALID, OPTION, END, STOPPED, RECEIVED}
+use Rattle.c_api.specs.Answer.{UNKNOWN, VALID, INVALID, OPTION, END, STOPPED, RECEIVED, WRITTEN}
 use Rattle.c_api.specs.declared.head.Head.{Head}
 use Rattle.c_api.specs.declared.verified.Verified.{Verified}
 use Rattle.c_api.specs.declared.received.Received.{Received}
 use Rattle.c_api.specs.declared.stepped.Stepped.{Stepped}
+use Rattle.c_api.specs.declared.written.Written.{Written}
 use Rattle.c_api.specs.Head.{head, headFor}
 use Rattle.c_api.specs.Verified.{verifiedFor}
 use Rattle.c_api.specs.Received.{receivedFor}
 use Rattle.c_api.specs.Stepped.{steppedFor}
+use Rattle.c_api.specs.Written.{writtenFor}
 
 -- a refusal, of its number and the four values
 abbrev why : ℕ → List ℕ → Refusal
@@ -58,6 +63,15 @@ pub received-back : (packet : List ℕ) (r : ReceivedAnswer) → receivedFrom (r
 unfolding receivedFor
 received-back packet Accepted = refl
 received-back packet (NotReceived r) = simp (refusal-numbered r) (ap NotReceived (refusal-back r))
+
+-- ---- the writer
+abbrev writtenFrom : Written → WrittenAnswer
+writtenFrom w = cond (eqb (w .answer) WRITTEN) (Length (w .length)) (NotWritten (why (w .refusal) (w .value)))
+
+pub written-back : (r : WrittenAnswer) → writtenFrom (writtenFor (writtenTold r)) ≡ r
+unfolding writtenFor
+written-back (Length n) = refl
+written-back (NotWritten r) = simp (refusal-numbered r) (ap NotWritten (refusal-back r))
 
 -- ---- a step
 abbrev kindFrom : ℕ → NdpOptionKind

@@ -1,10 +1,15 @@
--- The type and code of a value, from its numbers on paper: a `refl` for each variant.
+-- The type and code of a value, from its numbers on paper, and the value of three numbers.
 -- Assumes nothing.
-use mathlib.Core.Path.{_≡_, refl}
-use lib.ListN.{getD}
+use Prim.Native.Nat.{ℕ}
+use mathlib.Core.Path.{_≡_, refl, sym, ap, _∙_}
+use mathlib.Core.List.{List}
+use Rattle.wire.specs.Wire.{bytes32}
 use Rattle.icmpv6_type.specs.declared.Icmpv6Type.{Icmpv6Type}
 use Rattle.icmpv6_type.specs.declared.Icmpv6Type.the-variants.{Unknown, DestinationUnreachable, PacketTooBig, TimeExceeded, ParameterProblem, EchoRequest, EchoReply, RouterSolicitation, RouterAdvertisement, NeighborSolicitation, NeighborAdvertisement, Redirect}
 use Rattle.icmpv6_type.specs.Value.{typeTold, typeNumber, codeNumber}
+use Rattle.icmpv6_type.specs.Value as value
+use Rattle.icmpv6_type.proofs.Paper.{typeFrom, type-back}
+use Rattle.c_api.specs.Written.{valueOf}
 use Rattle.c_api.specs.Head.{typeOf, codeOf}
 
 pub type-told : (t : Icmpv6Type) → typeNumber t ≡ typeOf (typeTold t)
@@ -34,3 +39,8 @@ code-told (RouterAdvertisement h) = refl
 code-told NeighborSolicitation = refl
 code-told (NeighborAdvertisement h) = refl
 code-told Redirect = refl
+
+-- a value that is told as the numbers are is their value
+pub value-is : {t : Icmpv6Type} {b : List ℕ} (k c w : ℕ) → b ≡ bytes32 w → typeTold t ≡ value.typeOf k c b → valueOf k c w ≡ t
+unfolding valueOf
+value-is {t} k c w e h = rw (← e) (ap typeFrom (sym h) ∙ type-back t)

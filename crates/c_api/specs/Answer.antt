@@ -34,6 +34,10 @@ STOPPED = 8
 abbrev pub RECEIVED : ℕ
 RECEIVED = 9
 
+-- a packet that was written
+abbrev pub WRITTEN : ℕ
+WRITTEN = 10
+
 -- an option that was read
 abbrev pub PREFIX : ℕ
 PREFIX = 11

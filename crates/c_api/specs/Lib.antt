@@ -4,3 +4,4 @@ pub mod Verified
 pub mod Received
 pub mod Stepped
 pub mod Prefix
+pub mod Written

@@ -5,3 +5,4 @@ pub mod prefix;
 pub mod received;
 pub mod stepped;
 pub mod verified;
+pub mod written;

@@ -1,12 +1,12 @@
 -- An option that is put is read back by the walk as exactly that option, and by its own reader as what was written: one law for every option,
 -- over its bytes, and for each encoder that its bytes are a whole option.
 -- Assumes nothing.
-use Prim.Native.Nat.{ℕ, _<_, _≤_}
+use Prim.Native.Nat.{ℕ, suc, _<_, _≤_}
 use native.Mathlib.Omega.{arith}
 use mathlib.Core.Path.{_≡_, refl, sym, ap, _∙_}
 use mathlib.Core.List.{List, [], _∷_, append-nil}
-use lib.ListN.{length, getD, take}
-use lib.Seq.{take-append-seam}
+use lib.ListN.{length, getD, take, drop, drop-of-length-le}
+use lib.Seq.{take-append-seam, drop-cons}
 use Rattle.paper.specs.Paper.{Paper, gives}
 use Rattle.output.specs.Output.{roomFor, leaves}
 use Rattle.output.proofs.Laws.{room}
@@ -27,12 +27,19 @@ use Rattle.ndp_option.specs.LinkLayer.{typeOf}
 use Rattle.ndp_option.specs.Mtu.{mtuOf}
 use Rattle.prefix_information.specs.declared.PrefixInformation.{PrefixInformation}
 use Rattle.prefix_information.specs.Prefix.{bytesOf}
-use Rattle.option_writer.specs.Options.{mtuBytes, sixOf, linkLayerBytes}
+use Rattle.option_writer.specs.Options.{mtuBytes, linkLayerBytes}
 
 -- what putting some bytes promises, said of the option that they are
 pub put-as : {p : Paper} {left : List ℕ} (out b o : List ℕ) (n : ℕ) → b ≡ o → length b ≡ n → p ≡ roomFor (length b) out → left ≡ leaves (roomFor (length b) out) b out
     → (p ≡ roomFor n out) × (left ≡ leaves (roomFor n out) o out)
 put-as out b o n e l p q = rw (← l, ← e) (p, q)
+
+-- a list of six is its elements
+pub six : (a : List ℕ) → length a ≡ 6 → getD a 0 0 ∷ getD a 1 0 ∷ getD a 2 0 ∷ getD a 3 0 ∷ getD a 4 0 ∷ getD a 5 0 ∷ [] ≡ a
+six a h = rw (← (drop-of-length-le a {i = 6} (omega arith)), at 5 (lit< tt), at 4 (lit< tt), at 3 (lit< tt), at 2 (lit< tt), at 1 (lit< tt), at 0 (lit< tt))
+  where
+    at : (i : ℕ) → i < 6 → getD a i 0 ∷ drop (suc i) a ≡ drop i a
+    at i l = sym (drop-cons a i 0 (omega arith))
 
 -- bytes that are an option of a kind: as long as their second byte says, and of a size that their type's rule takes
 pub record Option (kind : ℕ) (o : List ℕ) : Type 0 where
@@ -65,17 +72,17 @@ pub mtu-option : (mtu : ℕ) → Option 5 (mtuBytes mtu)
 unfolding rule
 mtu-option mtu = record { some = lit< tt; long = refl; fits = refl }
 
-pub link-layer-option : (whose : LinkLayerAddressOption) (address : List ℕ) → Option (typeOf whose) (linkLayerBytes whose address)
+pub link-layer-option : (whose : LinkLayerAddressOption) (address : List ℕ) → length address ≡ 6 → Option (typeOf whose) (linkLayerBytes whose address)
 unfolding rule
-link-layer-option Source address = record { some = lit< tt; long = refl; fits = refl }
-link-layer-option Target address = record { some = lit< tt; long = refl; fits = refl }
+link-layer-option Source address h = record { some = lit< tt; long = omega arith; fits = rw h }
+link-layer-option Target address h = record { some = lit< tt; long = omega arith; fits = rw h }
 
 -- and each option's own reader gives back what was written (of the prefix information: prefix_information.proofs.RoundTrip)
 pub mtu-read : (mtu : ℕ) → mtu < 4294967296 → mtuOf (mtuBytes mtu) ≡ gives (mtu ∷ [])
 unfolding mtuOf
 mtu-read mtu h = simp (exactly-accepts 5 1 (mtuBytes mtu) (record { size = refl; kind = refl; says = refl }), join32 mtu h)
 
-pub link-layer-read : (whose : LinkLayerAddressOption) (address : List ℕ) → let o = linkLayerBytes whose address in partFrom 2 (sizedOf (typeOf whose) o) o ≡ sixOf address
+pub link-layer-read : (whose : LinkLayerAddressOption) (address : List ℕ) → length address ≡ 6 → let o = linkLayerBytes whose address in partFrom 2 (sizedOf (typeOf whose) o) o ≡ address
 unfolding sizedOf
-link-layer-read Source address = refl
-link-layer-read Target address = refl
+link-layer-read Source address h = rw h
+link-layer-read Target address h = rw h

@@ -1,8 +1,7 @@
 -- The bytes of options that a sender writes (RFC 4861, sections 4.6.1 and 4.6.4): type, length in units of eight octets, and what follows.
 -- Assumes nothing.
 use Prim.Native.Nat.{ℕ}
-use mathlib.Core.List.{List, [], _∷_}
-use lib.ListN.{getD}
+use mathlib.Core.List.{List, _∷_}
 use Rattle.wire.specs.Wire.{bytes32}
 use Rattle.ndp_option.specs.declared.link_layer_address_option.LinkLayerAddressOption.{LinkLayerAddressOption}
 use Rattle.ndp_option.specs.LinkLayer.{typeOf}
@@ -11,9 +10,5 @@ use Rattle.ndp_option.specs.LinkLayer.{typeOf}
 abbrev pub mtuBytes : ℕ → List ℕ
 mtuBytes mtu = 5 ∷ 1 ∷ 0 ∷ 0 ∷ bytes32 mtu
 
--- the first six of an address
-abbrev pub sixOf : List ℕ → List ℕ
-sixOf a = getD a 0 0 ∷ getD a 1 0 ∷ getD a 2 0 ∷ getD a 3 0 ∷ getD a 4 0 ∷ getD a 5 0 ∷ []
-
 abbrev pub linkLayerBytes : LinkLayerAddressOption → List ℕ → List ℕ
-linkLayerBytes whose address = typeOf whose ∷ 1 ∷ sixOf address
+linkLayerBytes whose address = typeOf whose ∷ 1 ∷ address

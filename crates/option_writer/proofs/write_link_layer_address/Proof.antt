@@ -2,9 +2,11 @@
 -- Assumes nothing.
 use Prim.Native.Nat.{ℕ}
 use mathlib.Core.List.{List, [], _∷_}
-use mathlib.Core.Path.{_≡_, refl, ap}
-use Rattle.option_writer.specs.Options.{sixOf, linkLayerBytes}
-use Rattle.option_writer.proofs.Laws.{put-as}
+use mathlib.Core.Path.{_≡_, refl, ap, _∙_}
+use Rattle.option_writer.specs.Options.{linkLayerBytes}
+use Rattle.option_writer.proofs.Laws.{put-as, six}
+use Rattle.ndp_option.specs.LinkLayer.{typeOf}
+use lib.ListN.{length, getD}
 use denote.Ref.{now}
 use borrow.Author.Needs.{needs}
 use Rattle.option_writer.proofs.write_link_layer_address.Statement.{statement}
@@ -44,7 +46,10 @@ returns : tie.Need-returns
 returns c = let p = c .before .before in
     let t = p .before .before .before in
     let a = t .before .before .args in
-    put-as (now (a .out)) _ (linkLayerBytes (a .whose) (a .t2)) 8 (ap (λ (k : ℕ). k ∷ 1 ∷ sixOf (a .t2)) (t .option-type .ensures)) refl (p .put .ensures .0) (p .put .ensures .1)
+    let all : length (a .t2) ≡ 6 = search needs in
+    let b = a .t2 in
+    let same = ap (λ (k : ℕ). k ∷ 1 ∷ getD b 0 0 ∷ getD b 1 0 ∷ getD b 2 0 ∷ getD b 3 0 ∷ getD b 4 0 ∷ getD b 5 0 ∷ []) (t .option-type .ensures) ∙ ap (λ (l : List ℕ). typeOf (a .whose) ∷ 1 ∷ l) (six b all) in
+    put-as (now (a .out)) _ (linkLayerBytes (a .whose) b) 8 same refl (p .put .ensures .0) (p .put .ensures .1)
 
 pub write-link-layer-address-spec : {M : Type 1} → statement M
 write-link-layer-address-spec =

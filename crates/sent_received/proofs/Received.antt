@@ -1,0 +1,79 @@
+-- A message of Neighbor Discovery that the writer wrote passes the receive check's tests 1 to 5 at hop limit 255: its checksum is computed, its code
+-- is 0, its fixed part is there and its options walk clean. What is left are its type's own reasons, which the caller's addresses decide.
+-- Assumes nothing.
+use Prim.Native.Nat.{ℕ, _+_, _≤_}
+use native.Mathlib.Omega.{arith}
+use mathlib.Core.Bool.{true}
+use mathlib.Core.Path.{_≡_, refl, sym, ap, _∙_}
+use mathlib.Core.List.{List}
+use lib.ListN.{length, getD, drop}
+use lib.Seq.{drop-drop}
+use Rattle.paper.specs.Paper.{Paper, gives}
+use Rattle.packet_length.proofs.Laws.{Between}
+use Rattle.icmpv6_headers.specs.declared.neighbor_advertisement_header.NeighborAdvertisementHeader.{NeighborAdvertisementHeader}
+use Rattle.icmpv6_headers.specs.declared.router_advertisement_header.RouterAdvertisementHeader.{RouterAdvertisementHeader}
+use Rattle.icmpv6_type.specs.declared.Icmpv6Type.{Icmpv6Type}
+use Rattle.icmpv6_type.specs.declared.Icmpv6Type.the-variants.{RouterSolicitation, RouterAdvertisement, NeighborSolicitation, NeighborAdvertisement, Redirect}
+use Rattle.icmpv6_type.specs.Value.{kindNumber, typeNumber, codeNumber}
+use Rattle.icmpv6_type.specs.Reserved.{Fits}
+use Rattle.checksum.specs.Running.{Bytes}
+use Rattle.checksum.specs.Icmpv6.{verdictOf}
+use Rattle.checksum.specs.Fields.{isValid}
+use Rattle.icmpv6_payload_slice.specs.Dispatch.{fixedOf}
+use Rattle.ndp_walk.specs.Walk.{Clean}
+use Rattle.ndp_options.specs.Walk.{walk}
+use Rattle.ndp_option_list.specs.Whole.{occurs}
+use Rattle.receive.specs.Reasons.{firstOf}
+use Rattle.receive.specs.Rules.{ownOf}
+use Rattle.receive.specs.Receive.{isNdp, answerBy, receiveOf}
+use Rattle.receive.specs.Receive as check
+use Rattle.receive.proofs.Theorems.{own-alone}
+use Rattle.writer.specs.Write.{optionsOf, packetOf, writeOf}
+use Rattle.writer.proofs.Accepted.{accepted}
+use Rattle.writer.proofs.Sent.{payload-kept, length-is, validates}
+
+-- the values of Neighbor Discovery
+pub data Ndp : Icmpv6Type → Type 0 where
+  routerSolicitation : Ndp RouterSolicitation
+  routerAdvertisement : (h : RouterAdvertisementHeader) → Ndp (RouterAdvertisement h)
+  neighborSolicitation : Ndp NeighborSolicitation
+  neighborAdvertisement : (h : NeighborAdvertisementHeader) → Ndp (NeighborAdvertisement h)
+  redirect : Ndp Redirect
+
+-- what the check asks of such a value's head, and where it looks for the options
+record Head (t : Icmpv6Type) (payload : List ℕ) : Type 0 where
+  ndp : isNdp (typeNumber t) ≡ true
+  code : codeNumber t ≡ 0
+  same : kindNumber t ≡ typeNumber t
+  behind : optionsOf t payload ≡ drop (fixedOf (typeNumber t)) payload
+
+head : {t : Icmpv6Type} (payload : List ℕ) → Ndp t → Head t payload
+head payload routerSolicitation = record { ndp = refl; code = refl; same = refl; behind = refl }
+head payload (routerAdvertisement h) = record { ndp = refl; code = refl; same = refl; behind = refl }
+head payload neighborSolicitation = record { ndp = refl; code = refl; same = refl; behind = refl }
+head payload (neighborAdvertisement h) = record { ndp = refl; code = refl; same = refl; behind = refl }
+head payload redirect = record { ndp = refl; code = refl; same = refl; behind = refl }
+
+module _ {t : Icmpv6Type} (is : Ndp t) (source destination payload out v : List ℕ) (written : writeOf t payload out ≡ gives v)
+    (fits : Fits t) (hs : Bytes source) (hd : Bytes destination) (hp : Bytes payload) where
+  abbrev packet : List ℕ
+  packet = packetOf source destination t payload
+
+  -- the check finds the options that the writer walked
+  options-found : check.optionsOf packet ≡ optionsOf t payload
+  options-found =
+      sym (drop-drop (fixedOf (typeNumber t)) 8 packet)
+      ∙ ap (drop (fixedOf (typeNumber t))) (payload-kept source destination t payload)
+      ∙ sym (head payload is .behind)
+
+  pub received : receiveOf 255 source destination packet ≡ answerBy (firstOf (ownOf (typeNumber t) source destination packet (occurs 1 (walk (optionsOf t payload) .items))))
+  received =
+      let ok = accepted t payload out v written in
+      let h = head payload is in
+      let n = length-is source destination t payload in
+      let within : Between (length packet) = record { low = omega (arith, n); high = omega (arith, n, ok .within) } in
+      let some : fixedOf (typeNumber t) ≤ length payload = rw (h .same) at (ok .present) in
+      let there : 8 + fixedOf (typeNumber t) ≤ length packet = omega (arith, n) in
+      own-alone 255 source destination packet within (h .ndp) refl (ap isValid (validates source destination t payload fits (ok .named) (ok .within) hp hs hd)) (h .code) there
+      (ap (λ (l : List ℕ). walk l .ending) options-found ∙ ok .walks)
+      ∙ ap (λ (l : List ℕ). answerBy (firstOf (ownOf (typeNumber t) source destination packet (occurs 1 (walk l .items))))) options-found

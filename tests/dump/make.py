@@ -1,0 +1,68 @@
+#!/usr/bin/env python3
+"""make.py: writes the stored cases, cases/NAME.rec with cases/NAME.txt beside it, the listing by model.py. Made from document 01's two packets, the
+shipped capture, and chance from a fixed seed."""
+import os
+import random
+import shutil
+
+import model
+
+here = os.path.dirname(os.path.abspath(__file__))
+shutil.rmtree(here + "/cases", ignore_errors=True)
+os.makedirs(here + "/cases")
+NEAR, ROUTERS = bytes.fromhex("fe80" + "00" * 13 + "01"), bytes.fromhex("ff02" + "00" * 13 + "02")
+ONE, TWO = bytes.fromhex("85007a2c000000000101020000000001"), bytes.fromhex("85007a2d000000000100020000000001")
+
+
+def record(packet, hops=255, source=NEAR, destination=ROUTERS):
+    return b"I6" + bytes([hops]) + source + destination + len(packet).to_bytes(2, "big") + packet
+
+
+def sealed(packet, source, destination):
+    """The packet with the field under which it validates."""
+    if len(packet) < 8:
+        return packet
+    blank = packet[:2] + b"\0\0" + packet[4:]
+    data = source + destination + len(packet).to_bytes(4, "big") + b"\0\0\0\x3a" + blank + b"\0" * (len(packet) % 2)
+    rest = sum(int.from_bytes(data[i:i + 2], "big") for i in range(0, len(data), 2)) % 65535
+    return blank[:2] + ((65535 - rest) % 65535).to_bytes(2, "big") + blank[4:]
+
+
+def case(name, capture, wanted=None):
+    text = model.listing(capture)
+    assert wanted is None or text.endswith(wanted + "\n"), (name, text)
+    open(f"{here}/cases/{name}.rec", "wb").write(capture)
+    open(f"{here}/cases/{name}.txt", "w").write(text)
+
+
+good = record(ONE) + record(TWO)
+case("document_01", good, "records 2")
+case("empty", b"", "records 0")
+case("one_byte", b"I", "stopped 14 at 0")
+case("one_byte_behind", good + b"I", "stopped 14 at 106")
+case("no_mark", good + b"I7" + bytes(60), "stopped 12 at 106")
+case("mark_alone", good + b"I6", "stopped 14 at 106")
+case("head_cut", good + record(ONE)[:36], "stopped 14 at 106")
+case("body_cut", good + record(ONE)[:-1], "stopped 14 at 106")
+case("length_2048", record(bytes([128]) + bytes(2047)) + good, "records 3")
+case("length_2049", good + b"I6" + bytes(33) + (2049).to_bytes(2, "big") + bytes(2049), "stopped 13 at 106")
+case("length_before_body", good + b"I6" + bytes(33) + b"\xff\xff", "stopped 13 at 106")
+case("short_packets", b"".join(record(ONE[:n]) for n in range(10)), "records 10")
+case("no_packet", record(b"") * 3, "records 3")
+real = open(here + "/../../examples/advertisements.rec", "rb").read()
+case("real", real)
+case("real_cut", real[:-5])
+random.seed(20261115)
+mixed = []
+for _ in range(300):
+    kind = random.choice([133, 134, 135, 136, 137, 133, 134, 135, 1, 2, 3, 4, 128, 129, 130, 255])
+    packet = bytearray([kind, random.choice([0, 0, 0, 1, 7, 11])]) + random.randbytes(6 + model.FIXED.get(kind, 0))
+    for _ in range(random.randrange(4)):
+        units = random.choice([1, 1, 4, 2, 0])
+        packet += bytes([random.choice([1, 2, 3, 4, 5, 9]), units]) + random.randbytes(max(0, 8 * units - 2))
+    packet = packet[:random.choice([len(packet)] * 4 + [random.randrange(len(packet) + 1)])]
+    source = random.choice([NEAR, NEAR, bytes(16), random.randbytes(16)])
+    if random.randrange(8):
+        packet = sealed(bytes(packet), source, ROUTERS)
+    mixed.append(record(bytes(packet), random.choice([255, 255, 255, 64]), source))
+case("mixed", b"".join(mixed), "records 300")
