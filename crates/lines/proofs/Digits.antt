@@ -3,13 +3,13 @@
 use Prim.Native.Nat.{ℕ, zero, suc, _+_, _/_, _%_, _^_, _<_, _≤_}
 use mathlib.Core.Path.{_≡_, refl, _∙_}
 use mathlib.Core.Bool.{Bool, true, false}
-use mathlib.Core.List.{[], _∷_, _++_}
+use mathlib.Core.List.{[], _∷_, _++_, append-assoc}
 use native.Mathlib.Omega.{arith}
 use native.Mathlib.Nat.{pow-suc}
 use lib.Dec.{ltb}
 use lib.ListN.{length, length-append}
 use borrow.Author.Tests.{ltb-true, ltb-false, lt-ltb, le-ltb}
-use Rattle.lines.specs.Digits.{decimalBy, decimal}
+use Rattle.lines.specs.Digits.{decimalBy, decimal, pair}
 
 -- any number of steps that is enough gives the same digits
 enough : (k j n : ℕ) → n ≤ k → n ≤ j → decimalBy k n ≡ decimalBy j n
@@ -28,6 +28,18 @@ decimal-one n h = enough n 9 n (omega arith) (omega arith) ∙ simp (lt-ltb n 10
 pub decimal-more : (n : ℕ) → 10 ≤ n → decimal n ≡ decimal (n / 10) ++ ((48 + n % 10) ∷ [])
 unfolding decimalBy decimal
 decimal-more n h = enough n (suc n) n (omega arith) (omega arith) ∙ simp (le-ltb n 10 h, enough n (n / 10) (n / 10) (omega arith) (omega arith))
+
+-- two digits, and the last two after those of a hundredth
+pub decimal-two : (n : ℕ) → 10 ≤ n → n < 100 → decimal n ≡ pair n
+decimal-two n h k = decimal-more n h ∙ rw (decimal-one (n / 10) (omega arith))
+
+pub decimal-hundred : (n : ℕ) → 100 ≤ n → decimal n ≡ decimal (n / 100) ++ pair (n % 100)
+decimal-hundred n h =
+    let tenth : n / 10 / 10 ≡ n / 100 = omega arith in
+    let tens : n / 10 % 10 ≡ n % 100 / 10 = omega arith in
+    let last : n % 10 ≡ n % 100 % 10 = omega arith in
+    decimal-more n (omega arith)
+    ∙ rw (decimal-more (n / 10) (omega arith), tenth, tens, last) (append-assoc (decimal (n / 100)) ((48 + n % 100 / 10) ∷ []) ((48 + n % 100 % 10) ∷ []))
 
 one-more : (k n : ℕ) → length (decimal (n / 10)) ≤ k → (t : Bool) → ltb n 10 ≡ t → length (decimal n) ≤ suc k
 one-more k n h true e = rw (decimal-one n (ltb-true n 10 e)) (omega arith)

@@ -16,6 +16,10 @@ decimalBy (suc k) n =
 unfoldable pub decimal : ℕ → List ℕ
 decimal n = decimalBy n n
 
+-- the two digits of a number below 100
+abbrev pub pair : ℕ → List ℕ
+pair n = (48 + n / 10) ∷ (48 + n % 10) ∷ []
+
 -- `0` to `9`, then `a` to `f`
 abbrev pub glyph : ℕ → ℕ
 glyph d = cond (ltb d 10) (48 + d) (87 + d)

@@ -4,7 +4,7 @@ ghost use mathlib.Core.List.{[], _∷_, _++_};
 ghost use Prim.Native.Nat.{_+_, _≤_, _<_};
 ghost use lib.ListN.{length};
 ghost use Rattle.lent.specs.Wrote.{Wrote};
-ghost use Rattle.lines.specs.Digits.{decimal, hex4, glyph as Digits·glyph};
+ghost use Rattle.lines.specs.Digits.{decimal, pair, hex4, glyph as Digits·glyph};
 ghost use Rattle.lines.specs.Text.{field, newline};
 ghost use Rattle.lent.specs.Put.{paper, putOf, leaves};
 ghost use Rattle.lines.specs.Line.{wordOf, okWord, text};
@@ -211,6 +211,7 @@ fn put_field(out: &mut [u8], at: usize, name: &[u8], n: u64) -> usize
     put_decimal(out, next, n)
 }
 
+// Two digits at a time.
 fn put_decimal(out: &mut [u8], at: usize, n: u64) -> usize
     requires { ⌜ at + length (decimal n) ≤ length (now out) ⌝ }
     ensures { λ r. ⌜ Wrote (now (out .entry)) at (decimal n) (now (out .exit)) r ⌝ }
@@ -218,8 +219,19 @@ fn put_decimal(out: &mut [u8], at: usize, n: u64) -> usize
     if n < 10 {
         return put_byte(out, at, 48 + n as u8);
     }
-    let last = put_decimal(out, at, n / 10);
-    put_byte(out, last, 48 + (n % 10) as u8)
+    if n < 100 {
+        return put_pair(out, at, n);
+    }
+    let next = put_decimal(out, at, n / 100);
+    put_pair(out, next, n % 100)
+}
+
+fn put_pair(out: &mut [u8], at: usize, n: u64) -> usize
+    requires { ⌜ (n < 100) × (at + 2 ≤ length (now out)) ⌝ }
+    ensures { λ r. ⌜ Wrote (now (out .entry)) at (pair n) (now (out .exit)) r ⌝ }
+{
+    let next = put_byte(out, at, 48 + (n / 10) as u8);
+    put_byte(out, next, 48 + (n % 10) as u8)
 }
 
 fn put_hex4(out: &mut [u8], at: usize, n: u16) -> usize
