@@ -208,6 +208,10 @@ fn put_field(out: &mut [u8], at: usize, name: &[u8], n: u64) -> usize
     ensures short { λ r. ⌜ r ≤ at + length (now (name .entry)) + 20 ⌝ }
 {
     let next = put_bytes(out, at, name);
+    // Most numbers of a listing have one digit, and need no call.
+    if n < 10 {
+        return put_byte(out, next, 48 + n as u8);
+    }
     put_decimal(out, next, n)
 }
 

@@ -1,7 +1,7 @@
 -- `lines::put_field` meets its contract: a number has at most twenty digits.
 -- Assumes nothing.
 use Rattle.lent.proofs.Wrote.{_then_}
-use Rattle.lines.proofs.Digits.{twenty}
+use Rattle.lines.proofs.Digits.{decimal-one, twenty}
 use Rattle.lines.specs.Text.{field}
 use native.Mathlib.Omega.{arith}
 use borrow.Author.Needs.{needs}
@@ -11,10 +11,14 @@ use Rattle.lines.proofs.put_field.Tie as tie
 put-bytes-requires : tie.Need-put-bytes-requires
 put-bytes-requires c κs = search needs
 
-put-decimal-requires : tie.Need-put-decimal-requires
-put-decimal-requires c κs =
-    let a = c .before .before .before .before .before .before .before in
-    omega (arith, c .before .before .before .put-bytes .ensures .ends, twenty (a .args .n) (a .fits .n .fits))
+cast-put-byte : tie.Need-cast-put-byte
+cast-put-byte c = search needs
+
+add-put-byte : tie.Need-add-put-byte
+add-put-byte c = search needs
+
+put-byte-requires : tie.Need-put-byte-requires
+put-byte-requires c κs = search needs
 
 same-length : tie.Need-same-length
 same-length c = search needs
@@ -23,9 +27,38 @@ returns : tie.Need-returns
 unfolding field
 returns c =
     let d = c .before .before in
-    let t = d .before .before .before .before in
+    let i = d .before .before in
+    let t = i .before .before .before in
+    let a = t .before .before .before .before in
+    (rw (decimal-one (a .args .n) (i .if1 .taken)) (t .put-bytes .ensures then d .put-byte .ensures), omega (arith, t .put-bytes .ensures .ends, d .put-byte .ensures .ends))
+
+put-decimal-requires : tie.Need-put-decimal-requires
+put-decimal-requires c κs =
+    let t = c .before .before .before .before in
+    let a = t .before .before .before .before in
+    omega (arith, t .put-bytes .ensures .ends, twenty (a .args .n) (a .fits .n .fits))
+
+same-length-2 : tie.Need-same-length-2
+same-length-2 c = search needs
+
+returns-2 : tie.Need-returns-2
+unfolding field
+returns-2 c =
+    let d = c .before .before in
+    let t = d .before .before .before .before .before in
     let a = t .before .before .before .before in
     (t .put-bytes .ensures then d .put-decimal .ensures, omega (arith, t .put-bytes .ensures .ends, d .put-decimal .ensures .ends, twenty (a .args .n) (a .fits .n .fits)))
 
 pub put-field-spec : {M : Type 1} → statement M
-put-field-spec = tie.close (tie.spec put-bytes-requires put-decimal-requires same-length returns)
+put-field-spec =
+    tie.close
+    (tie.spec
+    put-bytes-requires
+    cast-put-byte
+    add-put-byte
+    put-byte-requires
+    same-length
+    returns
+    put-decimal-requires
+    same-length-2
+    returns-2)
