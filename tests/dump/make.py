@@ -1,6 +1,6 @@
 #!/usr/bin/env python3
 """make.py: writes the stored cases, cases/NAME.rec with cases/NAME.txt beside it, the listing by model.py. Made from document 01's two packets, the
-shipped capture, and chance from a fixed seed."""
+packets that RFCs print, the shipped capture, and chance from a fixed seed."""
 import os
 import random
 import shutil
@@ -52,6 +52,14 @@ case("no_packet", record(b"") * 3, "records 3")
 real = open(here + "/../../examples/advertisements.rec", "rb").read()
 case("real", real)
 case("real_cut", real[:-5])
+printed, wanted = b"", []
+for entry in open(here + "/published.txt").read().split("\n\nRFC ")[1:]:
+    header, packet, lines = entry.split("\n", 1)[1].split("\n\n")
+    header, packet = bytes.fromhex(header), bytes.fromhex(packet)
+    assert len(header) == 40 and header[6] == 58 and int.from_bytes(header[4:6], "big") == len(packet), entry
+    wanted += [f"record {len(wanted) + 1} at {len(printed)}\n" + lines.strip().replace("> ", "")]
+    printed += record(packet, header[7], header[8:24], header[24:])
+case("published", printed, "\n".join(["icmp6 1", *wanted, f"records {len(wanted)}"]))
 random.seed(20261115)
 mixed = []
 for _ in range(300):

@@ -5,7 +5,7 @@ use mathlib.Core.List.{List, [], _∷_}
 use lib.ListN.{getD, set}
 use Rattle.wire.specs.Wire.{word16}
 
--- section 1: one's complement addition of two 16-bit numbers; section 2 names the end-around carry
+-- section 1: one's complement addition of two 16-bit numbers, by the end around carry
 infixl 65 _⊕_
 unfoldable pub _⊕_ : ℕ → ℕ → ℕ
 a ⊕ b = (a + b) % 65536 + (a + b) / 65536

@@ -1,4 +1,4 @@
--- Network byte order (RFC 8200, section 2 names it so; RFC 4861 draws every field so): the high byte first. Flags by their weight.
+-- Network byte order (RFC 791, appendix B): the high byte first. Flags by their weight.
 -- Assumes nothing.
 use Prim.Native.Nat.{ℕ, _+_, _*_, _/_, _%_}
 use mathlib.Core.Bool.{Bool, cond}
