@@ -59,7 +59,12 @@ void note(uint32_t answer, uint32_t refusal, uint64_t value);
 enum { LONGEST = 400 };
 void write_again(const uint8_t *packet, size_t n, const uint8_t *source, const uint8_t *destination);
 
+/* Up to four options in good order, and bytes that are damaged; the length of what is there. */
+size_t some_options(uint8_t *p);
+size_t damage(uint8_t *p, size_t n);
+
 void cases(void);   /* document 01's worked cases, every refusal, edges */
 void writes(void);  /* the packet writer */
+void joined(void);  /* option lists cut at every place */
 void damaged(void); /* 100,000 packets, random and damaged, beside plain.c */
 #endif

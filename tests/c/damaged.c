@@ -25,7 +25,7 @@ static void any_address(uint8_t *a) {
     for (int k = 0; k < 16; k++) a[k] = i < 8 ? addresses[i][k] : (uint8_t)chance();
 }
 
-static size_t options(uint8_t *p) {
+size_t some_options(uint8_t *p) {
     size_t n = 0;
     for (uint32_t k = below(5); k > 0; k--) {
         uint32_t type = below(4) ? 1 + below(5) : below(256), units = type == 3 ? 4 : type == 5 ? 1 : 1 + below(4);
@@ -52,10 +52,10 @@ static size_t message(uint8_t *p, uint8_t *source, uint8_t *destination) {
     any_address(destination);
     if ((k == 1 || k == 4) && below(4)) memcpy(source, addresses[1], 16);
     if (k == 2 && below(2)) memcpy(destination, addresses[6], 16);
-    return 8 + fixed[k] + (k < 5 ? options(p + 8 + fixed[k]) : 0);
+    return 8 + fixed[k] + (k < 5 ? some_options(p + 8 + fixed[k]) : 0);
 }
 
-static size_t damage(uint8_t *p, size_t n) {
+size_t damage(uint8_t *p, size_t n) {
     switch (below(6)) {
     case 0: return below((uint32_t)n + 1);
     case 1: p[n] = (uint8_t)chance(); return n + 1;

@@ -5,6 +5,7 @@
 int main(void) {
     cases();
     writes();
+    joined();
     damaged();
     printf("%lu passed, %lu failed\n", passed, failed);
     return failed != 0 || passed == 0;

@@ -69,7 +69,11 @@ void write_again(const uint8_t *packet, size_t n, const uint8_t *source, const u
     note(w.answer, w.refusal, 0);
     check(stands(OUT, wanted, room), "write", "the output holds the packet, then what it held");
     check(stands(PACKET, packet + 8, n - 8) && stands(SOURCE, source, 16) && stands(DESTINATION, destination, 16), "write", "all else is left alone");
-    if (w.answer == BROTHLADDER_WRITTEN) same("written validates", brothladder_verify(o, w.length, from, to).answer, BROTHLADDER_VALID);
+    if (w.answer != BROTHLADDER_WRITTEN) return;
+    same("written validates", brothladder_verify(o, w.length, from, to).answer, BROTHLADDER_VALID);
+    struct brothladder_head came = brothladder_decode(packet, n), went = brothladder_decode(o, w.length);
+    went.checksum = came.checksum;
+    same_answer("write then read", &went, &came, sizeof went);
 }
 
 void writes(void) {
