@@ -1,16 +1,11 @@
 -- RFC 4291, section 2.4, and document 01, "The receive check": kinds of addresses by the bytes that they begin with.
 -- Assumes nothing.
 use Prim.Native.Nat.{ℕ}
-use mathlib.Core.Bool.{Bool, true, false, _&&_}
+use mathlib.Core.Bool.{Bool, _&&_}
 use mathlib.Core.List.{List, [], _∷_, _++_}
 use lib.Dec.{eqb}
 use lib.ListN.{length, replicate}
-
--- whether bytes begin with a prefix
-unfoldable pub begins : List ℕ → List ℕ → Bool
-begins [] s = true
-begins (p ∷ ps) [] = false
-begins (p ∷ ps) (x ∷ s) = eqb x p && begins ps s
+use Rattle.wire.specs.Prefix.{begins}
 
 -- whether two are the same bytes
 abbrev pub same : List ℕ → List ℕ → Bool

@@ -1,22 +1,7 @@
 // The kinds of IPv6 addresses (RFC 4291, section 2.4) that the receive check asks for, of bytes that an address begins.
 ghost use mathlib.Core.Path.{_≡_};
-ghost use Rattle.addresses.specs.Address.{begins, same, unspecified, multicast, linkLocal, solicitedNode};
-
-fn begins_with(bytes: &[u8], prefix: &[u8]) -> bool
-    ensures { λ r. ⌜ r ≡ begins (now (prefix .entry)) (now (bytes .entry)) ⌝ }
-{
-    if bytes.len() < prefix.len() {
-        return false;
-    }
-    let mut i = 0;
-    while i < prefix.len() {
-        if bytes[i] != prefix[i] {
-            return false;
-        }
-        i += 1;
-    }
-    true
-}
+ghost use Rattle.addresses.specs.Address.{same, unspecified, multicast, linkLocal, solicitedNode};
+use wire::begins_with;
 
 pub fn is_same(a: &[u8], b: &[u8]) -> bool
     ensures { λ r. ⌜ r ≡ same (now (a .entry)) (now (b .entry)) ⌝ }

@@ -8,12 +8,13 @@ use mathlib.Core.List.{List}
 use native.Mathlib.Omega.{arith}
 use lib.ListN.{length, getD, drop}
 use lib.Seq.{drop-length}
+use Rattle.message_table.specs.Table.{isNdp}
 use Rattle.ndp_walk.specs.Walk.{Clean, walkFrom, walkOn}
 use Rattle.ndp_options.specs.Walk.{walk}
 use Rattle.receive.specs.declared.Received.{Received}
 use Rattle.receive.specs.declared.Received.the-variants.{Accepted}
 use Rattle.receive.specs.Told.{told}
-use Rattle.receive.specs.Receive.{isNdp, receiveOf}
+use Rattle.receive.specs.Receive.{receiveOf}
 use Rattle.receive.proofs.Theorems.{accepted-exactly}
 use Rattle.receive.proofs.Whole.{accepted-whole}
 use Rattle.c_api.specs.Received.{Sound, optionsAt}

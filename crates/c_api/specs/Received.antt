@@ -7,7 +7,7 @@ use lib.Dec.{eqb}
 use lib.ListN.{length, getD}
 use Rattle.paper.specs.Paper.{Paper}
 use Rattle.refusal.specs.Paper.{slots}
-use Rattle.receive.specs.Receive.{isNdp, fixedLen}
+use Rattle.message_table.specs.Table.{fixedLen, isNdp}
 use Rattle.c_api.specs.Answer.{REFUSED, RECEIVED, none}
 use Rattle.c_api.specs.declared.received.Received.{Received}
 

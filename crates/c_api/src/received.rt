@@ -3,8 +3,8 @@ ghost use mathlib.Core.Path.{_≡_};
 ghost use Rattle.receive.specs.Receive.{receiveOf};
 ghost use Rattle.c_api.specs.Received.{Sound, optionsAt, receivedFor};
 use crate::answer;
-use message_table::FixedPart;
-use message_table::fixed_part;
+use message_table::fixed_len;
+use message_table::is_ndp;
 use receive::receive_check;
 
 #[repr(C)]
@@ -22,15 +22,10 @@ fn options_at(packet: &[u8]) -> usize
     ensures { λ r. ⌜ r ≡ optionsAt (now (packet .entry)) ⌝ }
 {
     let kind = packet[0];
-    if kind < 133 {
-        return packet.len();
-    }
-    if 137 < kind {
-        return packet.len();
-    }
-    match fixed_part(kind) {
-        FixedPart::Bytes(fixed) => 8 + fixed,
-        FixedPart::NotKnown => 8,
+    if is_ndp(kind) {
+        8 + fixed_len(kind)
+    } else {
+        packet.len()
     }
 }
 

@@ -1,7 +1,7 @@
 -- Every case of the table holds: each side of each claim computes to the other.
 -- Assumes nothing.
 use mathlib.Core.Path.{refl}
-use Rattle.message_table.specs.Table.{known, fixedPart}
+use Rattle.message_table.specs.Table.{known, fixedLen}
 use Rattle.packet_length.specs.Length.{sized}
 use Rattle.icmpv6_type.specs.Value.{typeOf}
 use Rattle.icmpv6.specs.Head.{decodeOf}
@@ -17,5 +17,5 @@ use Rattle.icmpv6_payload_slice.specs.Dispatch.{payloadOf}
 use Rattle.cases.specs.Table.{table, All}
 
 pub hold : All table
-unfolding known fixedPart sized typeOf decodeOf judge walkOn walkFrom stepBy rule exactlyOf prefixOf _⊕_ sumOf verdictOf payloadOf
+unfolding known fixedLen sized typeOf decodeOf judge walkOn walkFrom stepBy rule exactlyOf prefixOf _⊕_ sumOf verdictOf payloadOf
 hold = (refl, (refl, (refl, (refl, (refl, (refl, (refl, (refl, (refl, (refl, (refl, (refl, (refl, (refl, (refl, (refl, (refl, (refl, tt))))))))))))))))))

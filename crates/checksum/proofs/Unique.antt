@@ -7,6 +7,7 @@ use Rattle.checksum.proofs.Paper.{computed-lossless, verdict-lossless}
 use Rattle.checksum.proofs.sum as sum
 use Rattle.checksum.proofs.checksum_of as checksum-of
 use Rattle.checksum.proofs.verify as verify
+use Rattle.checksum.proofs.validates as validates
 
 pub sum-unique : Only sum.ended (λ M 𝓤. sum.clauses 𝓤)
 sum-unique M 𝓤 H A m f κs a g x y v w = one 𝓤 (λ p q. (p ∙ sym q, refl))
@@ -16,3 +17,6 @@ checksum-of-unique M 𝓤 H A m f κs a g x y v w = one 𝓤 (λ p q. (computed-
 
 pub verify-unique : Only verify.ended (λ M 𝓤. verify.clauses 𝓤)
 verify-unique M 𝓤 H A m f κs a g x y v w = one 𝓤 (λ p q. (verdict-lossless x y (p ∙ sym q), refl))
+
+pub validates-unique : Only validates.ended (λ M 𝓤. validates.clauses 𝓤)
+validates-unique M 𝓤 H A m f κs a g x y v w = one 𝓤 (λ p q. (p ∙ sym q, refl))

@@ -5,6 +5,7 @@ ghost use lib.ListN.{length};
 ghost use Rattle.checksum.specs.Ones.{words, onesSum};
 ghost use Rattle.checksum.specs.Running.{lowFirst, folded, swapped, Part, Pseudo};
 ghost use Rattle.checksum.specs.Icmpv6.{computedOf, verdictOf};
+ghost use Rattle.checksum.specs.Fields.{isValid};
 ghost use Rattle.checksum.specs.Told.{computed, verdict};
 use packet_length::PacketLength;
 use refusal::Refusal;
@@ -132,5 +133,16 @@ pub fn verify(packet: &[u8], source: &[u8; 16], destination: &[u8; 16]) -> Verdi
                 Verdict::Invalid
             }
         }
+    }
+}
+
+// Whether a packet validates; one that is refused does not.
+pub fn validates(packet: &[u8], source: &[u8; 16], destination: &[u8; 16]) -> bool
+    ensures { λ r. ⌜ r ≡ isValid (verdictOf (now (source .entry)) (now (destination .entry)) (now (packet .entry))) ⌝ }
+{
+    match verify(packet, source, destination) {
+        Verdict::Valid => true,
+        Verdict::Invalid => false,
+        Verdict::Refused(_) => false,
     }
 }

@@ -35,10 +35,10 @@ fn say_verdict(packet: &[u8], source: &[u8; 16], destination: &[u8; 16]) {
 fn survives(packet: &[u8], source: &[u8; 16], destination: &[u8; 16]) -> u64
     ensures { λ r. ⌜ r ≤ 1 ⌝ }
 {
-    match checksum::verify(packet, source, destination) {
-        Verdict::Valid => 1,
-        Verdict::Invalid => 0,
-        Verdict::Refused(_) => 0,
+    if checksum::validates(packet, source, destination) {
+        1
+    } else {
+        0
     }
 }
 

@@ -10,7 +10,7 @@ use lib.Dec.{ltb}
 use lib.ListN.{length, getD, drop}
 use borrow.Author.Tests.{ltb-true, ltb-false, lt-ltb}
 use Rattle.paper.specs.Paper.{Paper, refuses, gives}
-use Rattle.message_table.specs.Table.{rows, rowOf, known, fixedPart}
+use Rattle.message_table.specs.Table.{rows, rowOf, known, fixedLen}
 use Rattle.message_table.proofs.View.{view, not-0}
 use Rattle.packet_length.specs.Length.{limit, sized}
 use Rattle.packet_length.proofs.Laws.{Between, sized-fits}
@@ -19,7 +19,7 @@ use Rattle.icmpv6_type.specs.declared.Icmpv6Type.the-variants.{Unknown}
 use Rattle.icmpv6_type.specs.Value.{typeTold, typeOf, kindNumber, fieldsOf, wordOf}
 use Rattle.icmpv6.specs.declared.icmpv6_header.Icmpv6Header.{Icmpv6Header}
 use Rattle.icmpv6.specs.Head.{decodeOf, encodeOf, headerTold, fieldsAt}
-use Rattle.icmpv6_payload_slice.specs.Dispatch.{fixedOf, kindOf, payloadOf, byValue, kindAt, byBytes}
+use Rattle.icmpv6_payload_slice.specs.Dispatch.{kindOf, payloadOf, byValue, kindAt, byBytes}
 use Rattle.icmpv6_payload_slice.proofs.Laws.{whole, known-pair}
 
 -- the kind of a value that was read
@@ -57,12 +57,12 @@ known-0 k c e = let l = ltb-true c (rowOf rows k .codes) e in lt-ltb 0 (rowOf ro
 
 -- an Unknown is Raw by its value, whatever it names
 pub unknown-raw : (k c w : ℕ) (s : List ℕ) → byValue (Unknown k c w) s ≡ gives (0 ∷ 0 ∷ [])
-unfolding fixedPart known
+unfolding fixedLen known
 unknown-raw k c w s = whole 0 s (omega arith)
 
 -- and where it names a known pair, its bytes are of the structured kind, which is not Raw
-module _ (k c w sum : ℕ) (s : List ℕ) (named : known k c ≡ true) (present : fixedOf k ≤ length s) (room : length s ≤ 4294967287) where
-  pub misnamed-structured : (byBytes (encodeOf (record { «icmp_type» = Unknown k c w; checksum = sum }) ++ s) ≡ gives (fixedOf k ∷ kindOf k s)) × (getD (kindOf k s) 0 0 ≡ k) × (k ≡ 0 → ⊥)
+module _ (k c w sum : ℕ) (s : List ℕ) (named : known k c ≡ true) (present : fixedLen k ≤ length s) (room : length s ≤ 4294967287) where
+  pub misnamed-structured : (byBytes (encodeOf (record { «icmp_type» = Unknown k c w; checksum = sum }) ++ s) ≡ gives (fixedLen k ∷ kindOf k s)) × (getD (kindOf k s) 0 0 ≡ k) × (k ≡ 0 → ⊥)
   misnamed-structured = (
     known-pair (encodeOf (record { «icmp_type» = Unknown k c w; checksum = sum }) ++ s) (record { low = omega arith; high = omega arith }) named ∙ whole k s present,
     rw (known-0 k c named),

@@ -5,7 +5,7 @@ use mathlib.Core.Path.{_≡_, refl}
 use mathlib.Core.List.{List, [], _∷_, _++_, map}
 use lib.ListN.{replicate}
 use Rattle.paper.specs.Paper.{Paper, refuses, gives}
-use Rattle.message_table.specs.Table.{known, fixedPart}
+use Rattle.message_table.specs.Table.{known, fixedLen}
 use Rattle.packet_length.specs.Length.{sized}
 use Rattle.icmpv6_type.specs.declared.Icmpv6Type.the-variants.{Unknown, NeighborSolicitation, Redirect}
 use Rattle.icmpv6_payload_slice.specs.Dispatch.{payloadOf, byValue, byBytes}
@@ -46,5 +46,5 @@ cases =
     ∷ []
 
 pub right : map (λ (k : Case). k .got) cases ≡ map (λ (k : Case). k .wanted) cases
-unfolding payloadOf byBytes known fixedPart sized
+unfolding payloadOf byBytes known fixedLen sized
 right = refl

@@ -1,29 +1,24 @@
--- The cases of a dispatch by type, and what the table says of a type as a number.
+-- The cases of a dispatch by type.
 -- Assumes nothing.
 use Prim.Native.Nat.{ℕ, _<_, _≤_}
 use mathlib.Core.Bool.{true, false}
-use mathlib.Core.Path.{_≡_, refl}
+use mathlib.Core.Path.{_≡_}
 use mathlib.Core.List.{List, [], _∷_}
 use lib.ListN.{length, getD, drop}
 use borrow.Author.Tests.{lt-ltb, le-ltb}
-use Rattle.paper.specs.Paper.{Paper, refuses, gives}
-use Rattle.message_table.specs.Table.{known, fixedPart}
+use Rattle.paper.specs.Paper.{refuses, gives}
+use Rattle.message_table.specs.Table.{known, fixedLen}
 use Rattle.packet_length.proofs.Laws.{Between, sized-fits}
-use Rattle.icmpv6_payload_slice.specs.Dispatch.{fixedOf, kindOf, payloadOf, byBytes}
+use Rattle.icmpv6_payload_slice.specs.Dispatch.{kindOf, payloadOf, byBytes}
 
 module _ (k : ℕ) (s : List ℕ) where
-  pub short : length s < fixedOf k → payloadOf k s ≡ refuses 4 (fixedOf k ∷ length s ∷ [])
+  pub short : length s < fixedLen k → payloadOf k s ≡ refuses 4 (fixedLen k ∷ length s ∷ [])
   unfolding payloadOf
-  short h = simp (lt-ltb (length s) (fixedOf k) h)
+  short h = simp (lt-ltb (length s) (fixedLen k) h)
 
-  pub whole : fixedOf k ≤ length s → payloadOf k s ≡ gives (fixedOf k ∷ kindOf k s)
+  pub whole : fixedLen k ≤ length s → payloadOf k s ≡ gives (fixedLen k ∷ kindOf k s)
   unfolding payloadOf
-  whole h = simp (le-ltb (length s) (fixedOf k) h)
-
--- the fixed part of a router advertisement
-pub eight : fixedOf 134 ≡ 8
-unfolding fixedPart
-eight = refl
+  whole h = simp (le-ltb (length s) (fixedLen k) h)
 
 -- by the bytes of a packet of a length that fits
 module _ (p : List ℕ) (fits : Between (length p)) where

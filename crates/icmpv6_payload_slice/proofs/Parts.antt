@@ -9,11 +9,10 @@ use lib.Seq.{take-add, drop-cons}
 use lib.Dec.{ltb, lit<}
 use mathlib.Core.Bool.{cond}
 use borrow.Author.Tests.{le-ltb}
-use Rattle.message_table.specs.Table.{fixedPart}
+use Rattle.message_table.specs.Table.{fixedLen}
 use Rattle.icmpv6_payload.specs.declared.router_advertisement_payload.RouterAdvertisementPayload.{RouterAdvertisementPayload}
 use Rattle.icmpv6_payload.specs.Owned.{timersIn, timersTold, timersBytes}
 use Rattle.icmpv6_payload.proofs.RoundTrip.{timers-read}
-use Rattle.icmpv6_payload_slice.specs.Dispatch.{fixedOf}
 use Rattle.icmpv6_payload_slice.specs.Parts.{addressPart, optionsPart}
 
 -- the kinds whose fixed part is addresses alone
@@ -26,9 +25,9 @@ pub data Addressed : ℕ → Type 0 where
 one-address : (s : List ℕ) → 16 ≤ length s → cond (ltb (length s) 16) [] (take 16 s) ++ [] ++ drop 16 s ≡ s
 one-address s h = simp (le-ltb (length s) 16 h, append-nil) (take-append-drop 16 s)
 
-pub addressed-whole : {k : ℕ} → Addressed k → (s : List ℕ) → fixedOf k ≤ length s →
-    addressPart 0 k s ++ addressPart 1 k s ++ optionsPart k (fixedOf k) s ≡ s
-unfolding fixedPart
+pub addressed-whole : {k : ℕ} → Addressed k → (s : List ℕ) → fixedLen k ≤ length s →
+    addressPart 0 k s ++ addressPart 1 k s ++ optionsPart k (fixedLen k) s ≡ s
+unfolding fixedLen
 addressed-whole routerSolicitation s h = refl
 addressed-whole neighborSolicitation s h = one-address s h
 addressed-whole neighborAdvertisement s h = one-address s h
@@ -42,8 +41,8 @@ module _ (s : List ℕ) (bytes : (i : ℕ) → getD s i 0 < 256) (h : 8 ≤ leng
   at : (i : ℕ) → i < 8 → getD s i 0 ∷ drop (suc i) s ≡ drop i s
   at i l = sym (drop-cons s i 0 (omega arith))
 
-  pub timers-whole : (p : RouterAdvertisementPayload) → timersTold p ≡ timersIn s → timersBytes p ++ optionsPart 134 (fixedOf 134) s ≡ s
-  unfolding fixedPart
+  pub timers-whole : (p : RouterAdvertisementPayload) → timersTold p ≡ timersIn s → timersBytes p ++ optionsPart 134 (fixedLen 134) s ≡ s
+  unfolding fixedLen
   timers-whole p read =
       ap (λ (l : List ℕ). l ++ drop 8 s) (timers-read s bytes p read)
       ∙ rw (at 7 (lit< tt), at 6 (lit< tt), at 5 (lit< tt), at 4 (lit< tt), at 3 (lit< tt), at 2 (lit< tt), at 1 (lit< tt), at 0 (lit< tt))

@@ -8,7 +8,7 @@ use lib.Dec.{eqb, ltb}
 use lib.ListN.{length, getD, drop}
 use Rattle.paper.specs.Paper.{Paper, refuses, gives}
 use Rattle.refusal.specs.Paper.{refusal}
-use Rattle.message_table.specs.Table.{known, fixedPart}
+use Rattle.message_table.specs.Table.{known, fixedLen}
 use Rattle.packet_length.specs.Length.{sized}
 use Rattle.icmpv6_type.specs.declared.Icmpv6Type.{Icmpv6Type}
 use Rattle.icmpv6_type.specs.Value as value
@@ -18,17 +18,13 @@ use Rattle.icmpv6_payload_slice.specs.declared.PayloadRead.{PayloadRead}
 use Rattle.icmpv6_payload_slice.specs.declared.PayloadRead.the-variants.{Payload, Refused}
 use Rattle.icmpv6_payload.specs.Owned.{timersIn, timersTold}
 
--- the bytes of a type's fixed part; none of a type that the table does not have
-abbrev pub fixedOf : ℕ → ℕ
-fixedOf k = getD (fixedPart k .values) 0 0
-
 -- the kind of a type that the table has is the type, with the timers of a router advertisement; of any other it is 0, raw
 abbrev pub kindOf : ℕ → List ℕ → List ℕ
 kindOf k s = cond (known k 0) (k ∷ cond (eqb k 134) (timersIn s) []) (0 ∷ [])
 
 -- the place behind the fixed part, and the kind
 unfoldable pub payloadOf : ℕ → List ℕ → Paper
-payloadOf k s = cond (ltb (length s) (fixedOf k)) (refuses 4 (fixedOf k ∷ length s ∷ [])) (gives (fixedOf k ∷ kindOf k s))
+payloadOf k s = cond (ltb (length s) (fixedLen k)) (refuses 4 (fixedLen k ∷ length s ∷ [])) (gives (fixedLen k ∷ kindOf k s))
 
 -- by the value of the head: its kind, which is 0 where it is Unknown
 abbrev pub byValue : Icmpv6Type → List ℕ → Paper

@@ -5,6 +5,7 @@ use mathlib.Core.Bool.{cond}
 use mathlib.Core.List.{List, []}
 use lib.Dec.{eqb, leb, ltb}
 use lib.ListN.{length, take, drop}
+use Rattle.message_table.specs.Table.{isNdp}
 
 -- how many addresses a kind has: 135 and 136 the target, 137 target and destination
 abbrev pub addresses : ℕ → ℕ
@@ -17,6 +18,6 @@ sixteenAt at s = cond (ltb (length s) (at + 16)) [] (take 16 (drop at s))
 abbrev pub addressPart : ℕ → ℕ → List ℕ → List ℕ
 addressPart i k s = cond (leb (addresses k) i) [] (sixteenAt (16 * i) s)
 
--- the bytes behind the fixed part: 133 to 137 have options
+-- the bytes behind the fixed part: the messages of Neighbor Discovery have options
 abbrev pub optionsPart : ℕ → ℕ → List ℕ → List ℕ
-optionsPart k at s = cond (ltb k 133) [] (cond (ltb 137 k) [] (drop at s))
+optionsPart k at s = cond (isNdp k) (drop at s) []

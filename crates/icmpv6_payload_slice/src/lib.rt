@@ -2,12 +2,12 @@
 ghost use mathlib.Core.Path.{_≡_};
 ghost use Prim.Native.Nat.{_<_, _≤_};
 ghost use lib.ListN.{length};
-ghost use Rattle.icmpv6_payload_slice.specs.Dispatch.{fixedOf, kindOf, kindTold, kindNumber, readTold, payloadOf, byValue, byBytes};
+ghost use Rattle.message_table.specs.Table.{fixedLen};
+ghost use Rattle.icmpv6_payload_slice.specs.Dispatch.{kindOf, kindTold, kindNumber, readTold, payloadOf, byValue, byBytes};
 ghost use Rattle.icmpv6_payload_slice.specs.Parts.{addresses, addressPart, optionsPart};
 use icmpv6::icmpv6_slice;
 use icmpv6_payload::router_advertisement_payload::RouterAdvertisementPayload;
 use icmpv6_type::Icmpv6Type;
-use message_table::FixedPart;
 use packet_length::PacketLength;
 use refusal::Refusal;
 
@@ -44,19 +44,9 @@ const RAW: u8 = 0;
 // The length of an IPv6 address.
 const IPV6_ADDRESS_LEN: usize = 16;
 
-// The bytes of a type's fixed part; none of a type that the table does not have.
-fn fixed_len(type_u8: u8) -> usize
-    ensures { λ r. ⌜ r ≡ fixedOf «type_u8» ⌝ }
-{
-    match message_table::fixed_part(type_u8) {
-        FixedPart::Bytes(n) => n,
-        FixedPart::NotKnown => 0,
-    }
-}
-
 // The kind of a payload whose fixed part is there.
 fn kind_of(type_u8: u8, payload: &[u8]) -> Icmpv6PayloadKind
-    requires { ⌜ fixedOf «type_u8» ≤ length (now payload) ⌝ }
+    requires { ⌜ fixedLen «type_u8» ≤ length (now payload) ⌝ }
     ensures { λ r. ⌜ kindTold r ≡ kindOf «type_u8» (now (payload .entry)) ⌝ }
 {
     match type_u8 {
@@ -88,7 +78,7 @@ fn kind_of(type_u8: u8, payload: &[u8]) -> Icmpv6PayloadKind
 fn from_type(type_u8: u8, payload: &[u8]) -> PayloadRead
     ensures { λ r. ⌜ readTold r ≡ payloadOf «type_u8» (now (payload .entry)) ⌝ }
 {
-    let needed = fixed_len(type_u8);
+    let needed = message_table::fixed_len(type_u8);
     let present = payload.len();
     if present < needed {
         return PayloadRead::Refused(Refusal::ShortFixedPart { needed, present });
@@ -197,10 +187,7 @@ impl Icmpv6PayloadSlice {
         let kind = self.kind;
         let at = self.options_at;
         let type_u8 = kind.type_u8();
-        if type_u8 < 133 {
-            return &payload[..0];
-        }
-        if 137 < type_u8 {
+        if !message_table::is_ndp(type_u8) {
             return &payload[..0];
         }
         if payload.len() < at {

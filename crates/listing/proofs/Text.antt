@@ -2,6 +2,7 @@
 -- Assumes nothing.
 use Prim.Native.Nat.{ℕ, _+_, _-_, _<_, _≤_}
 use mathlib.Core.Path.{_≡_, refl, ap}
+use mathlib.Core.Bool.{true, false}
 use mathlib.Core.List.{List, [], _∷_, _++_, append-assoc}
 use native.Mathlib.Omega.{arith}
 use native.Mathlib.Nat.{add-zero}
@@ -14,12 +15,12 @@ use Rattle.refusal.specs.Table.{number}
 use Rattle.refusal.specs.Paper.{refusal}
 use Rattle.refusal.proofs.Paper.{refusal-numbered}
 use Rattle.packet_length.proofs.Laws.{behind}
-use Rattle.message_table.specs.Table.{fixedPart}
+use Rattle.message_table.specs.Table.{fixedLen, isNdp}
 use Rattle.icmpv6.specs.Head.{decodeOf}
 use Rattle.ndp_options.specs.Walk.{walk}
 use Rattle.ndp_walk.specs.Walk.{Item, Walk, then, clean, refused}
 use Rattle.lines.specs.Text.{optLine, endLine, refusedAtLine, refusedLine}
-use Rattle.listing.specs.Packet.{value, kindOf, headText, itemsText, endingText, walkText, optionsText, packetText}
+use Rattle.listing.specs.Packet.{kindOf, headText, itemsText, endingText, walkText, optionsText, packetText}
 
 -- an option, and the walk behind it
 pub one-more : (n : ℕ) (i : Item) (w : Walk) → walkText n (then (i ∷ []) w) ≡ optLine (i .at) (i .type) (i .len) ++ walkText (n + 1) w
@@ -38,17 +39,17 @@ stopped-by n at why = refl
 
 -- the options of a kind
 module _ (kind : ℕ) (p : List ℕ) where
-  pub none-shown : kind < 133 → optionsText kind p ≡ []
+  pub none-shown : isNdp kind ≡ false → optionsText kind p ≡ []
   unfolding optionsText
-  none-shown h = simp (lt-ltb kind 133 h)
+  none-shown h = simp h
 
-  pub part-cut : 133 ≤ kind → length p - 8 < value 0 (fixedPart kind) → optionsText kind p ≡ refusedLine 4
+  pub part-cut : isNdp kind ≡ true → length p - 8 < fixedLen kind → optionsText kind p ≡ refusedLine 4
   unfolding optionsText
-  part-cut h k = simp (le-ltb kind 133 h, lt-ltb _ _ k)
+  part-cut h k = simp (h, lt-ltb _ _ k)
 
-  pub all-shown : 133 ≤ kind → value 0 (fixedPart kind) ≤ length p - 8 → optionsText kind p ≡ walkText 0 (walk (drop (8 + value 0 (fixedPart kind)) p))
+  pub all-shown : isNdp kind ≡ true → fixedLen kind ≤ length p - 8 → optionsText kind p ≡ walkText 0 (walk (drop (8 + fixedLen kind) p))
   unfolding optionsText
-  all-shown h k = simp (le-ltb kind 133 h, le-ltb _ _ k)
+  all-shown h k = simp (h, le-ltb _ _ k)
 
 module _ (hop : ℕ) (source destination p : List ℕ) where
   pub not-decoded : (why : Refusal) → decodeOf p ≡ refusal why → packetText hop source destination p ≡ refusedLine (number why)

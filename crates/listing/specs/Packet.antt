@@ -6,7 +6,7 @@ use mathlib.Core.List.{List, [], _∷_, _++_}
 use lib.Dec.{ltb, eqb}
 use lib.ListN.{length, getD, drop}
 use Rattle.paper.specs.Paper.{Paper}
-use Rattle.message_table.specs.Table.{fixedPart}
+use Rattle.message_table.specs.Table.{fixedLen, isNdp}
 use Rattle.icmpv6.specs.Head.{decodeOf}
 use Rattle.checksum.specs.Icmpv6.{verdictOf}
 use Rattle.checksum.specs.Fields.{isValid}
@@ -65,13 +65,14 @@ endingText n (RefusedAt at why) = refusedAtLine (why .number) at
 abbrev pub walkText : ℕ → Walk → List ℕ
 walkText n w = itemsText (w .items) ++ endingText (n + length (w .items)) (w .ending)
 
--- option lines only for rs to redirect, whose types are the table's last; behind the fixed part, or `refused 4`
+-- option lines only for rs to redirect, the messages of Neighbor Discovery; behind the fixed part, or `refused 4`
 unfoldable pub optionsText : ℕ → List ℕ → List ℕ
 optionsText kind p =
-    let fixed = value 0 (fixedPart kind) in
-    cond (ltb kind 133) []
+    let fixed = fixedLen kind in
+    cond (isNdp kind)
     (cond (ltb (length p - 8) fixed) (refusedLine 4)
     (walkText 0 (walk (drop (8 + fixed) p))))
+    []
 
 -- a packet that is not decoded prints its refusal only
 unfoldable pub packetText : ℕ → List ℕ → List ℕ → List ℕ → List ℕ

@@ -6,21 +6,16 @@ ghost use Rattle.lent.specs.Wrote.{Wrote};
 ghost use Rattle.lent.specs.Put.{paper, putOf, leaves};
 ghost use Rattle.capture.specs.Record.{recorded};
 ghost use Rattle.icmpv6_type.specs.Value.{typeTold};
-ghost use Rattle.checksum.specs.Icmpv6.{verdictOf};
-ghost use Rattle.checksum.specs.Fields.{isValid};
 ghost use Rattle.receive.specs.Receive.{receiveOf};
 ghost use Rattle.ndp_options.specs.Walk.{walk};
 ghost use Rattle.lines.specs.Line.{text, wordOf};
-ghost use Rattle.message_table.specs.Table.{fixedPart};
-ghost use Rattle.listing.specs.Packet.{value, wordFor, recvOf, walkText, optionsText, packetText, recordText};
-use checksum::Verdict;
+ghost use Rattle.listing.specs.Packet.{wordFor, recvOf, walkText, optionsText, packetText, recordText};
 use icmpv6::icmpv6_header::HeaderRead;
 use icmpv6::icmpv6_header::Icmpv6Header;
 use icmpv6_type::Icmpv6Type;
 use lent::Put;
 use lines::Line;
 use lines::Word;
-use message_table::FixedPart;
 use ndp_options::Cursor;
 use ndp_options::Step;
 use receive::Received;
@@ -120,7 +115,7 @@ fn put_packet(
                 word,
                 code: packet[1],
                 sum: header.checksum,
-                ok: validates(packet, source, destination),
+                ok: checksum::validates(packet, source, destination),
                 len: packet.len() as u64,
                 recv: reason_of(packet, hop_limit, source, destination),
             };
@@ -196,16 +191,6 @@ fn shown_of(value: Icmpv6Type) -> Shown
     }
 }
 
-fn validates(packet: &[u8], source: &[u8; 16], destination: &[u8; 16]) -> bool
-    ensures { λ r. ⌜ r ≡ isValid (verdictOf (now (source .entry)) (now (destination .entry)) (now (packet .entry))) ⌝ }
-{
-    match checksum::verify(packet, source, destination) {
-        Verdict::Valid => true,
-        Verdict::Invalid => false,
-        Verdict::Refused(_) => false,
-    }
-}
-
 // The reason of the receive check, or 0.
 fn reason_of(packet: &[u8], hop_limit: u8, source: &[u8; 16], destination: &[u8; 16]) -> u64
     ensures { λ r. ⌜ r ≡ recvOf (receiveOf «hop_limit» (now (source .entry)) (now (destination .entry)) (now (packet .entry))) ⌝ }
@@ -216,30 +201,21 @@ fn reason_of(packet: &[u8], hop_limit: u8, source: &[u8; 16], destination: &[u8;
     }
 }
 
-// The option lines of rs to redirect, whose kinds are the last of the table.
+// The option lines of rs to redirect, the messages of Neighbor Discovery.
 fn put_options(out: &mut [u8], at: usize, kind: u8, packet: &[u8]) -> usize
     requires { ⌜ (at + 32768 ≤ length (now out)) × (8 ≤ length (now packet)) × (length (now packet) ≤ 2048) ⌝ }
     ensures wrote { λ r. ⌜ Wrote (now (out .entry)) at (optionsText kind (now (packet .entry))) (now (out .exit)) r ⌝ }
     ensures short { λ r. ⌜ r ≤ at + 32768 ⌝ }
 {
-    if kind < 133 {
+    if !message_table::is_ndp(kind) {
         return at;
     }
-    let fixed = fixed_len(kind);
+    let fixed = message_table::fixed_len(kind);
     if packet.len() - 8 < fixed {
         return put_line(out, at, Line::Refused { number: 4 });
     }
     let from = 8 + fixed;
     put_walk(out, at, &packet[from..])
-}
-
-fn fixed_len(kind: u8) -> usize
-    ensures { λ r. ⌜ r ≡ value 0 (fixedPart kind) ⌝ }
-{
-    match message_table::fixed_part(kind) {
-        FixedPart::Bytes(n) => n,
-        FixedPart::NotKnown => 0,
-    }
 }
 
 // A line for each option, and the ending of the walk.

@@ -12,7 +12,7 @@ use lib.ListN.{length, getD, drop}
 use lib.Seq.{drop-cons}
 use borrow.Author.Tests.{eq-eqb, ne-eqb, le-ltb}
 use Rattle.message_table.specs.declared.Row.{Row}
-use Rattle.message_table.specs.Table.{rowOf, known}
+use Rattle.message_table.specs.Table.{rowOf, known, fixedLen}
 
 module _ (t : List Row) (i : ℕ) (d : Row) (k : ℕ) (within : i < length t) where
   pub hit : getD t i d .kind ≡ k → rowOf (drop i t) k ≡ getD t i d
@@ -33,6 +33,27 @@ codes-of-3 c = refl
 pub codes-of-4 : (c : ℕ) → known 4 c ≡ ltb c 11
 unfolding known
 codes-of-4 c = refl
+
+-- the fixed parts of Neighbor Discovery
+pub fixed-of-133 : fixedLen 133 ≡ 0
+unfolding fixedLen
+fixed-of-133 = refl
+
+pub fixed-of-134 : fixedLen 134 ≡ 8
+unfolding fixedLen
+fixed-of-134 = refl
+
+pub fixed-of-135 : fixedLen 135 ≡ 16
+unfolding fixedLen
+fixed-of-135 = refl
+
+pub fixed-of-136 : fixedLen 136 ≡ 16
+unfolding fixedLen
+fixed-of-136 = refl
+
+pub fixed-of-137 : fixedLen 137 ≡ 32
+unfolding fixedLen
+fixed-of-137 = refl
 
 -- a type that no row has
 module _ (k c : ℕ)

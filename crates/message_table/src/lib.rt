@@ -1,6 +1,6 @@
 // The known message types as one table, which decoder, dispatch, writer and receive check ask.
 ghost use mathlib.Core.Path.{_≡_};
-ghost use Rattle.message_table.specs.Table.{rows, rowOf, known, fixedPart, told};
+ghost use Rattle.message_table.specs.Table.{rows, rowOf, known, fixedLen, isNdp};
 
 // A known type, how many codes it has (listed from 0 on), and the bytes of its fixed part behind the head.
 pub struct Row {
@@ -67,13 +67,7 @@ pub const ROWS: [Row; 11] = [
     },
 ];
 
-// The length of a type's fixed part.
-pub enum FixedPart {
-    Bytes(usize),
-    NotKnown,
-}
-
-// The row of a type; of one that the table does not have, a row without codes.
+// The row of a type; of one that the table does not have, a row with no code and no fixed part.
 fn row_of(kind: u8) -> Row
     ensures { λ r. ⌜ r ≡ rowOf rows kind ⌝ }
 {
@@ -101,13 +95,20 @@ pub fn is_known(kind: u8, code: u8) -> bool
     code < row.codes
 }
 
-// The length of the fixed part of a type, whatever the code.
-pub fn fixed_part(kind: u8) -> FixedPart
-    ensures { λ r. ⌜ told r ≡ fixedPart kind ⌝ }
+// The bytes of a type's fixed part, whatever the code; none of a type that the table does not have.
+pub fn fixed_len(kind: u8) -> usize
+    ensures { λ r. ⌜ r ≡ fixedLen kind ⌝ }
 {
-    let row = row_of(kind);
-    if row.codes == 0 {
-        return FixedPart::NotKnown;
+    let listed = row_of(kind);
+    listed.fixed
+}
+
+// Whether a type is one of Neighbor Discovery.
+pub fn is_ndp(kind: u8) -> bool
+    ensures { λ r. ⌜ r ≡ isNdp kind ⌝ }
+{
+    if kind < 133 {
+        return false;
     }
-    FixedPart::Bytes(row.fixed)
+    kind <= 137
 }

@@ -9,9 +9,10 @@ use lib.Dec.{eqb}
 use lib.ListN.{getD}
 use borrow.Author.Tests.{eqb-true, eqb-false}
 use Rattle.paper.specs.Paper.{Paper}
+use Rattle.message_table.specs.Table.{isNdp}
 use Rattle.receive.specs.Reasons.{Reason}
 use Rattle.receive.specs.Rules.{ownOf}
-use Rattle.receive.specs.Receive.{isNdp, reasons, accepted, notReceived, answerBy}
+use Rattle.receive.specs.Receive.{reasons, accepted, notReceived, answerBy}
 use Rattle.receive.proofs.First.{Numbered}
 
 pub answer-0 : (n : ℕ) → answerBy n ≡ accepted → n ≡ 0

@@ -9,6 +9,8 @@ use native.Mathlib.Omega.{arith}
 use lib.ListN.{length, getD}
 use borrow.Author.Tests.{eq-eqb, ne-eqb, le-ltb}
 use Rattle.packet_length.proofs.Laws.{Between, sized-fits, behind}
+use Rattle.message_table.specs.Table.{fixedLen, isNdp}
+use Rattle.message_table.proofs.Laws.{fixed-of-133}
 use Rattle.checksum.specs.Icmpv6.{verdictOf}
 use Rattle.checksum.specs.Fields.{isValid}
 use Rattle.ndp_walk.specs.Walk.{Clean}
@@ -16,9 +18,8 @@ use Rattle.ndp_options.specs.Walk.{walk}
 use Rattle.ndp_option_list.specs.Whole.{occurs}
 use Rattle.receive.specs.Reasons.{firstOf, None, First}
 use Rattle.receive.specs.Rules.{ownOf}
-use Rattle.receive.specs.Receive.{isNdp, fixedLen, optionsOf, reasons, accepted, notReceived, answerBy, receiveOf}
+use Rattle.receive.specs.Receive.{optionsOf, reasons, accepted, notReceived, answerBy, receiveOf}
 use Rattle.receive.specs.Given.{givenFor, among}
-use Rattle.receive.proofs.Lengths.{of-133}
 use Rattle.receive.proofs.First.{none-first, first-none, named, names, first-numbered, first-among, without}
 use Rattle.receive.proofs.Answers.{answer-0, answer-n, numbered}
 use Rattle.receive.proofs.Types.{Kind, solicits-routers, advertises-router, solicits-neighbor, advertises-neighbor, redirects, other, view}
@@ -69,7 +70,7 @@ module _ (hops : ℕ) (source destination packet : List ℕ) where
       by : {t : ℕ} → Kind t → getD packet 0 0 ≡ t → Between (length packet) × First n (reasons hops source destination packet) → among n (givenFor t) ≡ true
       by solicits-routers e f =
           let eight = le-ltb (length packet) 8 (f .0 .low) in
-          first-among (without (_ ∷ _ ∷ _ ∷ []) _ _ eight (rw (e, of-133) at (f .1)))
+          first-among (without (_ ∷ _ ∷ _ ∷ []) _ _ eight (rw (e, fixed-of-133) at (f .1)))
       by advertises-router e f = first-among (rw e at (f .1))
       by solicits-neighbor e f = first-among (rw e at (f .1))
       by advertises-neighbor e f = first-among (rw e at (f .1))

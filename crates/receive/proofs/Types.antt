@@ -8,7 +8,7 @@ use native.Mathlib.Omega.{arith}
 use native.Mathlib.Decide.{decLe}
 use borrow.Author.Tests.{ne-eqb, le-leb, lt-leb}
 use Rattle.wire.proofs.Cases.{cases}
-use Rattle.receive.specs.Receive.{isNdp}
+use Rattle.message_table.specs.Table.{isNdp}
 use Rattle.receive.specs.Given.{givenFor}
 
 pub data Kind : ℕ → Type 0 where

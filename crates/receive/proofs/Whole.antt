@@ -8,7 +8,7 @@ use mathlib.Core.List.{List, _∷_}
 use native.Mathlib.Omega.{arith}
 use lib.ListN.{length, getD, drop}
 use borrow.Author.Tests.{not-false, eqb-true, ltb-false}
-use Rattle.message_table.specs.Table.{known}
+use Rattle.message_table.specs.Table.{known, fixedLen, isNdp}
 use Rattle.packet_length.proofs.Laws.{sized-fits}
 use Rattle.icmpv6_type.proofs.Laws.{as-known}
 use Rattle.icmpv6.specs.Head.{decodeOf, checksumAt, fieldsAt}
@@ -22,7 +22,7 @@ use Rattle.ndp_options.proofs.Laws.{all-bytes}
 use Rattle.receive.specs.declared.Received.{Received}
 use Rattle.receive.specs.declared.Received.the-variants.{Accepted}
 use Rattle.receive.specs.Reasons.{None}
-use Rattle.receive.specs.Receive.{isNdp, fixedLen, isClean, reasons, receiveOf}
+use Rattle.receive.specs.Receive.{isClean, reasons, receiveOf}
 use Rattle.receive.specs.Told.{told}
 use Rattle.receive.specs.Whole.{Reached, start, on, isWhole, Whole}
 use Rattle.receive.proofs.Types.{Kind, solicits-routers, advertises-router, solicits-neighbor, advertises-neighbor, redirects, other, view}

@@ -8,8 +8,8 @@ use native.Mathlib.Omega.{arith}
 use lib.ListN.{length, getD, take, set, replicate}
 use Rattle.paper.specs.Paper.{Paper}
 use Rattle.packet_length.specs.Length.{sized}
-use Rattle.message_table.specs.Table.{fixedPart}
-use Rattle.addresses.specs.Address.{begins}
+use Rattle.message_table.specs.Table.{fixedLen}
+use Rattle.wire.specs.Prefix.{begins}
 use Rattle.checksum.specs.Ones.{_⊕_}
 use Rattle.checksum.specs.Icmpv6.{sumOf, withField, checksumOf, verdictOf}
 use Rattle.ndp_walk.specs.Judge.{judge}
@@ -103,7 +103,7 @@ abbrev answerTo : Witness → Paper
 answerTo w = receiveOf (w .hops) (w .source) (w .destination) (w .packet)
 
 pub answered : map answerTo witnesses ≡ map (λ (w : Witness). answerBy (w .reason)) witnesses
-unfolding witnesses receiveOf reasons firstOf ownOf sized fixedPart begins sumOf checksumOf verdictOf _⊕_ judge rule walkOn walkFrom occurs
+unfolding witnesses receiveOf reasons firstOf ownOf sized fixedLen begins sumOf checksumOf verdictOf _⊕_ judge rule walkOn walkFrom occurs
 answered = refl
 
 -- type and answer of each
@@ -118,7 +118,7 @@ complete = refl
 
 -- no check that is constant: the first packet of the table under hop limit 255 and under 254
 pub not-constant : (p : Paper) → ((hops : ℕ) (source destination packet : List ℕ) → receiveOf hops source destination packet ≡ p) → ⊥
-unfolding receiveOf reasons firstOf ownOf sized fixedPart begins sumOf checksumOf verdictOf _⊕_ judge rule walkOn walkFrom occurs
+unfolding receiveOf reasons firstOf ownOf sized fixedLen begins sumOf checksumOf verdictOf _⊕_ judge rule walkOn walkFrom occurs
 not-constant p same =
     let packet = sealed near all (message 133 0 option) in
     let e = sym taken ∙ same 255 near all packet ∙ sym (same 254 near all packet) ∙ left in

@@ -1,13 +1,13 @@
 -- Document 01, "The receive check": after refusals 1 and 2, the reasons of refusal 11 in its order.
 -- Assumes nothing.
 use Prim.Native.Nat.{ℕ, _+_}
-use mathlib.Core.Bool.{Bool, true, false, cond, not, _&&_}
+use mathlib.Core.Bool.{Bool, true, false, cond, not}
 use mathlib.Core.List.{List, [], _∷_}
-use lib.Dec.{eqb, leb, ltb}
+use lib.Dec.{eqb, ltb}
 use lib.ListN.{length, getD, drop}
 use Rattle.paper.specs.Paper.{Paper, gives, refuses}
 use Rattle.packet_length.specs.Length.{sized}
-use Rattle.message_table.specs.Table.{fixedPart}
+use Rattle.message_table.specs.Table.{fixedLen, isNdp}
 use Rattle.checksum.specs.Icmpv6.{verdictOf}
 use Rattle.checksum.specs.Fields.{isValid}
 use Rattle.ndp_walk.specs.Walk.{Ending, Clean, RefusedAt}
@@ -16,14 +16,7 @@ use Rattle.ndp_option_list.specs.Whole.{occurs}
 use Rattle.receive.specs.Reasons.{Reason, reason, firstOf}
 use Rattle.receive.specs.Rules.{ownOf}
 
--- the messages of Neighbor Discovery
-abbrev pub isNdp : ℕ → Bool
-isNdp type = leb 133 type && leb type 137
-
--- the bytes of a type's fixed part, from the table of message types; the options are behind it
-abbrev pub fixedLen : ℕ → ℕ
-fixedLen type = getD (fixedPart type .values) 0 0
-
+-- the options are behind the fixed part
 abbrev pub optionsOf : List ℕ → List ℕ
 optionsOf packet = drop (8 + fixedLen (getD packet 0 0)) packet
 

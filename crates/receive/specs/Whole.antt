@@ -6,6 +6,7 @@ use mathlib.Core.Bool.{Bool, true, false}
 use mathlib.Core.List.{List, [], _∷_, map}
 use lib.ListN.{length, getD}
 use Rattle.paper.specs.Paper.{gives}
+use Rattle.message_table.specs.Table.{fixedLen}
 use Rattle.icmpv6_type.specs.Value.{fieldsOf}
 use Rattle.icmpv6.specs.Head.{decodeOf, checksumAt, fieldsAt}
 use Rattle.ndp_walk.specs.Walk.{Clean}
@@ -16,7 +17,7 @@ use Rattle.ndp_options.specs.declared.NdpOption.{NdpOption}
 use Rattle.ndp_options.specs.declared.Cursor.{Cursor}
 use Rattle.ndp_options.specs.declared.Step.{Step}
 use Rattle.ndp_options.specs.declared.Step.the-variants.{Handed, End, Refused, Stopped}
-use Rattle.receive.specs.Receive.{fixedLen, optionsOf}
+use Rattle.receive.specs.Receive.{optionsOf}
 
 -- a place that one comes to by steps from the first option byte on
 pub data Reached (options : List ℕ) : ℕ → Type 0 where

@@ -4,21 +4,19 @@ ghost use mathlib.Core.Path.{_≡_};
 ghost use mathlib.Core.Bool.{_&&_};
 ghost use Prim.Native.Nat.{_+_, _≤_};
 ghost use lib.ListN.{length};
-ghost use Rattle.checksum.specs.Icmpv6.{verdictOf};
-ghost use Rattle.checksum.specs.Fields.{isValid};
+ghost use Rattle.message_table.specs.Table.{fixedLen};
 ghost use Rattle.receive.specs.Reasons.{firstOf};
 ghost use Rattle.receive.specs.Rules.{routerSolicitation, routerAdvertisement, neighborSolicitation, neighborAdvertisement, redirect, ownOf};
-ghost use Rattle.receive.specs.Receive.{isNdp, fixedLen, reasons, receiveOf};
+ghost use Rattle.receive.specs.Receive.{reasons, receiveOf};
 ghost use Rattle.receive.specs.Told.{told};
 use addresses::is_link_local;
 use addresses::is_multicast;
 use addresses::is_same;
 use addresses::is_solicited_node;
 use addresses::is_unspecified;
-use checksum::Verdict;
-use checksum::verify;
-use message_table::FixedPart;
-use message_table::fixed_part;
+use checksum::validates;
+use message_table::fixed_len;
+use message_table::is_ndp;
 use ndp_option_list::Occurs;
 use ndp_option_list::has_type;
 use packet_length::PacketLength;
@@ -31,34 +29,6 @@ pub enum Received {
     Accepted,
     // Refusals 1, 2, or 11 with the first reason that holds.
     Refused(Refusal),
-}
-
-fn is_ndp(kind: u8) -> bool
-    ensures { λ r. ⌜ r ≡ isNdp kind ⌝ }
-{
-    if kind < 133 {
-        return false;
-    }
-    kind <= 137
-}
-
-fn validates(packet: &[u8], source: &[u8; 16], destination: &[u8; 16]) -> bool
-    ensures { λ r. ⌜ r ≡ isValid (verdictOf (now (source .entry)) (now (destination .entry)) (now (packet .entry))) ⌝ }
-{
-    match verify(packet, source, destination) {
-        Verdict::Valid => true,
-        Verdict::Invalid => false,
-        Verdict::Refused(_) => false,
-    }
-}
-
-fn fixed_len(kind: u8) -> usize
-    ensures { λ r. ⌜ r ≡ fixedLen kind ⌝ }
-{
-    match fixed_part(kind) {
-        FixedPart::Bytes(n) => n,
-        FixedPart::NotKnown => 0,
-    }
 }
 
 fn both(a: bool, b: bool) -> bool

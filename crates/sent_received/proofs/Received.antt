@@ -10,6 +10,7 @@ use lib.ListN.{length, getD, drop}
 use lib.Seq.{drop-drop}
 use Rattle.paper.specs.Paper.{Paper, gives}
 use Rattle.packet_length.proofs.Laws.{Between}
+use Rattle.message_table.specs.Table.{fixedLen, isNdp}
 use Rattle.icmpv6_headers.specs.declared.neighbor_advertisement_header.NeighborAdvertisementHeader.{NeighborAdvertisementHeader}
 use Rattle.icmpv6_headers.specs.declared.router_advertisement_header.RouterAdvertisementHeader.{RouterAdvertisementHeader}
 use Rattle.icmpv6_type.specs.declared.Icmpv6Type.{Icmpv6Type}
@@ -19,13 +20,12 @@ use Rattle.icmpv6_type.specs.Reserved.{Fits}
 use Rattle.checksum.specs.Running.{Bytes}
 use Rattle.checksum.specs.Icmpv6.{verdictOf}
 use Rattle.checksum.specs.Fields.{isValid}
-use Rattle.icmpv6_payload_slice.specs.Dispatch.{fixedOf}
 use Rattle.ndp_walk.specs.Walk.{Clean}
 use Rattle.ndp_options.specs.Walk.{walk}
 use Rattle.ndp_option_list.specs.Whole.{occurs}
 use Rattle.receive.specs.Reasons.{firstOf}
 use Rattle.receive.specs.Rules.{ownOf}
-use Rattle.receive.specs.Receive.{isNdp, answerBy, receiveOf}
+use Rattle.receive.specs.Receive.{answerBy, receiveOf}
 use Rattle.receive.specs.Receive as check
 use Rattle.receive.proofs.Theorems.{own-alone}
 use Rattle.writer.specs.Write.{optionsOf, packetOf, writeOf}
@@ -45,7 +45,7 @@ record Head (t : Icmpv6Type) (payload : List ℕ) : Type 0 where
   ndp : isNdp (typeNumber t) ≡ true
   code : codeNumber t ≡ 0
   same : kindNumber t ≡ typeNumber t
-  behind : optionsOf t payload ≡ drop (fixedOf (typeNumber t)) payload
+  behind : optionsOf t payload ≡ drop (fixedLen (typeNumber t)) payload
 
 head : {t : Icmpv6Type} (payload : List ℕ) → Ndp t → Head t payload
 head payload routerSolicitation = record { ndp = refl; code = refl; same = refl; behind = refl }
@@ -62,8 +62,8 @@ module _ {t : Icmpv6Type} (is : Ndp t) (source destination payload out v : List 
   -- the check finds the options that the writer walked
   options-found : check.optionsOf packet ≡ optionsOf t payload
   options-found =
-      sym (drop-drop (fixedOf (typeNumber t)) 8 packet)
-      ∙ ap (drop (fixedOf (typeNumber t))) (payload-kept source destination t payload)
+      sym (drop-drop (fixedLen (typeNumber t)) 8 packet)
+      ∙ ap (drop (fixedLen (typeNumber t))) (payload-kept source destination t payload)
       ∙ sym (head payload is .behind)
 
   pub received : receiveOf 255 source destination packet ≡ answerBy (firstOf (ownOf (typeNumber t) source destination packet (occurs 1 (walk (optionsOf t payload) .items))))
@@ -72,8 +72,8 @@ module _ {t : Icmpv6Type} (is : Ndp t) (source destination payload out v : List 
       let h = head payload is in
       let n = length-is source destination t payload in
       let within : Between (length packet) = record { low = omega (arith, n); high = omega (arith, n, ok .within) } in
-      let some : fixedOf (typeNumber t) ≤ length payload = rw (h .same) at (ok .present) in
-      let there : 8 + fixedOf (typeNumber t) ≤ length packet = omega (arith, n) in
+      let some : fixedLen (typeNumber t) ≤ length payload = rw (h .same) at (ok .present) in
+      let there : 8 + fixedLen (typeNumber t) ≤ length packet = omega (arith, n) in
       own-alone 255 source destination packet within (h .ndp) refl (ap isValid (validates source destination t payload fits (ok .named) (ok .within) hp hs hd)) (h .code) there
       (ap (λ (l : List ℕ). walk l .ending) options-found ∙ ok .walks)
       ∙ ap (λ (l : List ℕ). answerBy (firstOf (ownOf (typeNumber t) source destination packet (occurs 1 (walk l .items))))) options-found

@@ -9,6 +9,7 @@ use Rattle.wire.proofs.u16_to_be as u16-to-be
 use Rattle.wire.proofs.u32_to_be as u32-to-be
 use Rattle.wire.proofs.has_flag as has-flag
 use Rattle.wire.proofs.flag_of as flag-of
+use Rattle.wire.proofs.begins_with as begins-with
 
 pub u16-from-be-unique : Only u16-from-be.ended (λ M 𝓤. u16-from-be.clauses 𝓤)
 u16-from-be-unique M 𝓤 H A m f κs a g x y v w = one 𝓤 (λ p q. (p ∙ sym q, refl))
@@ -27,3 +28,6 @@ has-flag-unique M 𝓤 H A m f κs a g x y v w = one 𝓤 (λ p q. (p ∙ sym q,
 
 pub flag-of-unique : Only flag-of.ended (λ M 𝓤. flag-of.clauses 𝓤)
 flag-of-unique M 𝓤 H A m f κs a g x y v w = one 𝓤 (λ p q. (p ∙ sym q, refl))
+
+pub begins-with-unique : Only begins-with.ended (λ M 𝓤. begins-with.clauses 𝓤)
+begins-with-unique M 𝓤 H A m f κs a g x y v w = one 𝓤 (λ p q. (p ∙ sym q, refl))

@@ -1,2 +1,3 @@
 pub mod Wire
 pub mod Bits
+pub mod Prefix

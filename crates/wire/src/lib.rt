@@ -1,6 +1,7 @@
-// Numbers of several bytes, the high byte first, and the flags of a byte, as every header on the wire has them.
+// Numbers of several bytes, the high byte first, and the flags of a byte, as every header on the wire has them; and what bytes begin with.
 ghost use mathlib.Core.Path.{_≡_};
 ghost use Rattle.wire.specs.Wire.{word16, word32, bytes16, bytes32, hasFlag, flagOf};
+ghost use Rattle.wire.specs.Prefix.{begins};
 
 pub fn u16_from_be(a: u8, b: u8) -> u16
     ensures { λ r. ⌜ r ≡ word16 a b ⌝ }
@@ -46,4 +47,21 @@ pub fn flag_of(set: bool, weight: u8) -> u8
     ensures { λ r. ⌜ r ≡ flagOf set weight ⌝ }
 {
     if set { weight } else { 0 }
+}
+
+// Whether bytes begin with a prefix. All bytes begin with one that is empty.
+pub fn begins_with(bytes: &[u8], prefix: &[u8]) -> bool
+    ensures { λ r. ⌜ r ≡ begins (now (prefix .entry)) (now (bytes .entry)) ⌝ }
+{
+    if bytes.len() < prefix.len() {
+        return false;
+    }
+    let mut i = 0;
+    while i < prefix.len() {
+        if bytes[i] != prefix[i] {
+            return false;
+        }
+        i += 1;
+    }
+    true
 }

@@ -10,10 +10,11 @@ use lib.Dec.{eqb, ltb, lit<}
 use lib.ListN.{length, drop}
 use borrow.Author.Tests.{ltb-false, le-ltb, lt-ltb, ne-eqb}
 use Rattle.paper.specs.Paper.{Paper, refuses, gives}
+use Rattle.message_table.specs.Table.{fixedLen}
 use Rattle.icmpv6_type.specs.declared.Icmpv6Type.{Icmpv6Type}
 use Rattle.icmpv6_type.specs.Value.{kindNumber, typeNumber, codeNumber}
 use Rattle.icmpv6_type.specs.Reserved.{misnamed}
-use Rattle.icmpv6_payload_slice.specs.Dispatch.{fixedOf, byValue}
+use Rattle.icmpv6_payload_slice.specs.Dispatch.{byValue}
 use Rattle.icmpv6_payload_slice.proofs.Laws.{short, whole}
 use Rattle.ndp_walk.specs.Walk.{Ending, Clean, RefusedAt}
 use Rattle.ndp_walk.proofs.Judging.{refusal-numbered}
@@ -29,7 +30,7 @@ use Rattle.writer.specs.Write.{_orElse_, optionsOf, sendableOf, writeOf}
 pub record Accepted (t : Icmpv6Type) (s out : List ℕ) : Type 0 where
   pub named : misnamed t ≡ false
   pub within : length s ≤ 65527
-  pub present : fixedOf (kindNumber t) ≤ length s
+  pub present : fixedLen (kindNumber t) ≤ length s
   pub walks : walk (optionsOf t s) .ending ≡ Clean
   pub room : 8 + length s ≤ length out
 
@@ -63,9 +64,9 @@ module _ (t : Icmpv6Type) (s out v : List ℕ) where
           Accepted t s out
       by true b e f q = never {p = refuses 10 (typeNumber t ∷ codeNumber t ∷ [])} (lit< tt) q
       by false true e f q = never {p = refuses 3 (65527 ∷ length s ∷ [])} (lit< tt) q
-      by false false e f q = elim (decLe (fixedOf (kindNumber t)) (length s)) [
+      by false false e f q = elim (decLe (fixedLen (kindNumber t)) (length s)) [
         | yes h ↦
             let w = walked (walk (optionsOf t s) .ending) refl (rw (whole (kindNumber t) s h) at q) in
             record { named = e; within = ltb-false 65527 (length s) f; present = h; walks = w .0; room = w .1 }
-        | no h ↦ never {p = refuses 4 (fixedOf (kindNumber t) ∷ length s ∷ [])} (lit< tt) (rw (short (kindNumber t) s (omega arith)) at q)
+        | no h ↦ never {p = refuses 4 (fixedLen (kindNumber t) ∷ length s ∷ [])} (lit< tt) (rw (short (kindNumber t) s (omega arith)) at q)
       ]

@@ -6,7 +6,7 @@ use mathlib.Core.Path.{_≡_, refl}
 use mathlib.Core.List.{List, [], _∷_, _++_, map}
 use lib.ListN.{replicate}
 use Rattle.paper.specs.Paper.{Paper}
-use Rattle.message_table.specs.Table.{known, fixedPart}
+use Rattle.message_table.specs.Table.{known, fixedLen}
 use Rattle.icmpv6_type.specs.declared.Icmpv6Type.{Icmpv6Type}
 use Rattle.icmpv6_type.specs.declared.Icmpv6Type.the-variants.{Unknown, RouterSolicitation, NeighborSolicitation}
 use Rattle.checksum.specs.Ones.{_⊕_}
@@ -57,5 +57,5 @@ cases =
     ∷ []
 
 pub right : map (λ (k : Case). k .got) cases ≡ map (λ (k : Case). k .wanted) cases
-unfolding sendableOf payloadOf roomFor known fixedPart sumOf checksumOf _⊕_ judge rule walkOn walkFrom
+unfolding sendableOf payloadOf roomFor known fixedLen sumOf checksumOf _⊕_ judge rule walkOn walkFrom
 right = refl

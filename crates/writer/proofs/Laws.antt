@@ -13,13 +13,13 @@ use Rattle.paper.specs.Paper.{Paper, refuses, gives}
 use Rattle.refusal.specs.declared.Refusal.{Refusal}
 use Rattle.refusal.specs.Paper.{refusal}
 use Rattle.refusal.proofs.Paper.{refusal-numbered}
-use Rattle.message_table.specs.Table.{known}
+use Rattle.message_table.specs.Table.{known, fixedLen}
 use Rattle.icmpv6_type.specs.declared.Icmpv6Type.{Icmpv6Type}
 use Rattle.icmpv6_type.specs.declared.Icmpv6Type.the-variants.{Unknown, DestinationUnreachable, PacketTooBig, TimeExceeded, ParameterProblem, EchoRequest, EchoReply, RouterSolicitation, RouterAdvertisement, NeighborSolicitation, NeighborAdvertisement, Redirect}
 use Rattle.icmpv6_type.specs.Value.{kindNumber, typeNumber, codeNumber}
 use Rattle.icmpv6_type.specs.Reserved.{misnamed}
 use Rattle.icmpv6_payload_slice.specs.declared.Icmpv6PayloadKind.{Icmpv6PayloadKind}
-use Rattle.icmpv6_payload_slice.specs.Dispatch.{fixedOf, kindOf, kindTold, payloadOf, byValue}
+use Rattle.icmpv6_payload_slice.specs.Dispatch.{kindOf, kindTold, payloadOf, byValue}
 use Rattle.icmpv6_payload_slice.specs.Dispatch as dispatch
 use Rattle.icmpv6_payload_slice.specs.Parts.{optionsPart}
 use Rattle.icmpv6_payload_slice.proofs.Laws.{short, whole}
@@ -93,10 +93,10 @@ module _ (t : Icmpv6Type) (s : List ℕ) where
 
   -- what was dispatched says where the options are
   pub dispatched : (at : ℕ) (kind : Icmpv6PayloadKind) → gives (at ∷ kindTold kind) ≡ byValue t s → optionsPart (dispatch.kindNumber kind) at s ≡ optionsOf t s
-  dispatched at kind e = elim (decLe (fixedOf (kindNumber t)) (length s)) [
+  dispatched at kind e = elim (decLe (fixedLen (kindNumber t)) (length s)) [
     | yes h ↦
         let q = e ∙ whole (kindNumber t) s h in
-        let place : at ≡ fixedOf (kindNumber t) = ap (λ (p : Paper). getD (p .values) 0 0) q in
+        let place : at ≡ fixedLen (kindNumber t) = ap (λ (p : Paper). getD (p .values) 0 0) q in
         let own : dispatch.kindNumber kind ≡ kindNumber t = ap (λ (p : Paper). getD (p .values) 1 0) q ∙ kind-kept t s in
         rw (place, own)
     | no h ↦ absurd (let z = ap (λ (p : Paper). p .number) (e ∙ short (kindNumber t) s (omega arith)) in omega arith)

@@ -8,13 +8,14 @@ use lib.Dec.{ltb, eqb}
 use lib.ListN.{length}
 use Rattle.paper.specs.Paper.{Paper, refuses, gives}
 use Rattle.refusal.specs.Paper.{refusal}
+use Rattle.message_table.specs.Table.{fixedLen}
 use Rattle.icmpv6_type.specs.declared.Icmpv6Type.{Icmpv6Type}
 use Rattle.icmpv6_type.specs.Value.{kindNumber, typeNumber, codeNumber}
 use Rattle.icmpv6_type.specs.Reserved.{misnamed}
 use Rattle.icmpv6.specs.Head.{encodeOf}
 use Rattle.checksum.specs.Icmpv6.{checksumOf}
 use Rattle.icmpv6_checksum.specs.Header.{headOf}
-use Rattle.icmpv6_payload_slice.specs.Dispatch.{fixedOf, byValue}
+use Rattle.icmpv6_payload_slice.specs.Dispatch.{byValue}
 use Rattle.icmpv6_payload_slice.specs.Parts.{optionsPart}
 use Rattle.ndp_option_list.specs.Whole.{countOf}
 use Rattle.output.specs.Output.{roomFor}
@@ -28,7 +29,7 @@ a orElse b = cond (eqb (a .number) 0) b a
 
 -- the options behind the fixed part: none unless the value is of types 133 to 137
 abbrev pub optionsOf : Icmpv6Type → List ℕ → List ℕ
-optionsOf t payload = optionsPart (kindNumber t) (fixedOf (kindNumber t)) payload
+optionsOf t payload = optionsPart (kindNumber t) (fixedLen (kindNumber t)) payload
 
 -- refusals 10 and 3, the dispatch's 4, the walk's 5 to 8
 unfoldable pub sendableOf : Icmpv6Type → List ℕ → Paper

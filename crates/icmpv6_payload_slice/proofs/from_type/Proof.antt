@@ -1,11 +1,6 @@
 -- `from_type` meets its contract: the fixed part is tested, and its length is the place behind it.
 -- Assumes nothing.
-use mathlib.Core.List.{List, _∷_}
-use Rattle.paper.specs.Paper.{gives}
-use lib.ListN.{length}
-use Prim.Native.Nat.{ℕ, _<_, _≤_}
-use Rattle.icmpv6_payload_slice.specs.Dispatch.{fixedOf, kindOf}
-use mathlib.Core.Path.{_≡_, sym, ap, _∙_}
+use mathlib.Core.Path.{sym}
 use denote.Ref.{now}
 use Rattle.icmpv6_payload_slice.proofs.Laws.{short, whole}
 use borrow.Author.Needs.{needs}

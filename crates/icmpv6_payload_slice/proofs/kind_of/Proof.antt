@@ -4,9 +4,8 @@ use mathlib.Core.List.{List, _∷_}
 use Prim.Native.Nat.{ℕ, _≤_}
 use denote.Ref.{now}
 use lib.ListN.{length}
-use Rattle.message_table.proofs.Laws.{unlisted}
-use Rattle.icmpv6_payload_slice.proofs.Laws.{eight}
-use mathlib.Core.Path.{_≡_, sym, ap, _∙_}
+use Rattle.message_table.proofs.Laws.{fixed-of-134, unlisted}
+use mathlib.Core.Path.{ap}
 use native.Mathlib.Omega.{arith}
 use Rattle.message_table.specs.Table.{known}
 use borrow.Author.Needs.{needs}
@@ -15,7 +14,7 @@ use Rattle.icmpv6_payload_slice.proofs.kind_of.Tie as tie
 
 -- of a router advertisement eight bytes are there
 enough : (c : tie.At-match-keys8) → 8 ≤ length (now (c .before .before .args .payload))
-enough c = rw (c .match .keys8, eight) at (c .before .before .pre)
+enough c = rw (c .match .keys8, fixed-of-134) at (c .before .before .pre)
 
 shared-slice-read-t6 : tie.Need-shared-slice-read-t6
 shared-slice-read-t6 c = let e = enough (c .before) in omega arith

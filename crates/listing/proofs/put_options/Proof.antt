@@ -3,20 +3,30 @@
 use denote.Ref.{now}
 use Prim.Native.Nat.{_+_, _-_}
 use native.Mathlib.Omega.{arith}
-use mathlib.Core.Path.{_≡_, refl, ap}
+use mathlib.Core.Path.{_≡_, refl, sym, ap, _∙_}
+use mathlib.Core.Bool.{true}
 use mathlib.Core.List.{[]}
 use lib.Seq.{take-all}
 use lib.ListN.{length, take, drop, length-drop}
+use borrow.Author.Tests.{not-true, not-false}
+use Rattle.message_table.specs.Table.{isNdp}
 use Rattle.lent.proofs.Wrote.{nothing}
 use Rattle.listing.proofs.Text.{none-shown, part-cut, all-shown}
 use borrow.Author.Needs.{needs}
 use Rattle.listing.proofs.put_options.Statement.{statement}
 use Rattle.listing.proofs.put_options.Tie as tie
 
+is-ndp-requires : tie.Need-is-ndp-requires
+is-ndp-requires c κs = search needs
+
+-- past the first test: the message is one of Neighbor Discovery
+ndp : (c : tie.Else1) → isNdp (c .before .before .before .before .args .kind) ≡ true
+ndp c = sym (c .before .is-ndp .ensures) ∙ not-false _ (c .if1 .left)
+
 returns : tie.Need-returns
 returns c =
-    let a = c .before .before .before .args in
-    (rw (none-shown (a .kind) (now (a .packet)) (c .if1 .taken)) (nothing (now (a .out)) (a .at) [] refl), omega arith)
+    let a = c .before .before .before .before .args in
+    (rw (none-shown (a .kind) (now (a .packet)) (sym (c .before .is-ndp .ensures) ∙ not-true _ (c .if1 .taken))) (nothing (now (a .out)) (a .at) [] refl), omega arith)
 
 fixed-len-requires : tie.Need-fixed-len-requires
 fixed-len-requires c κs = search needs
@@ -35,8 +45,8 @@ returns-2 c =
     let l = c .before .before in
     let i = l .before .before in
     let f = i .before in
-    let a = f .before .before .before .before .args in
-    (rw (part-cut (a .kind) (now (a .packet)) (f .before .if1 .left) (rw (f .fixed-len .ensures) at (i .if2 .taken))) (l .put-line .ensures .0), omega (arith, l .put-line .ensures .1))
+    let a = f .before .before .before .before .before .args in
+    (rw (part-cut (a .kind) (now (a .packet)) (ndp (f .before)) (rw (f .fixed-len .ensures) at (i .if2 .taken))) (l .put-line .ensures .0), omega (arith, l .put-line .ensures .1))
 
 add-from : tie.Need-add-from
 add-from c = search needs
@@ -61,16 +71,17 @@ returns-3 c =
     let l = c .before .before in
     let i = l .before .before .before in
     let f = i .before in
-    let a = f .before .before .before .before in
+    let a = f .before .before .before .before .before in
     let p = now (a .args .packet) in
     let from = 8 + f .fixed-len .result in
     let all : take (length p - from) (drop from p) ≡ drop from p = take-all (length p - from) (drop from p) (simp length-drop (omega arith)) in
-    (rw (all-shown (a .args .kind) p (f .before .if1 .left) (rw (f .fixed-len .ensures) at (i .if2 .left)), ← (f .fixed-len .ensures)) (rw all at (l .put-walk .ensures .0)), omega (arith, l .put-walk .ensures .1, ap length all, length-drop from p, a .pre))
+    (rw (all-shown (a .args .kind) p (ndp (f .before)) (rw (f .fixed-len .ensures) at (i .if2 .left)), ← (f .fixed-len .ensures)) (rw all at (l .put-walk .ensures .0)), omega (arith, l .put-walk .ensures .1, ap length all, length-drop from p, a .pre))
 
 pub put-options-spec : {M : Type 1} → statement M
 put-options-spec =
     tie.close
     (tie.spec
+    is-ndp-requires
     returns
     fixed-len-requires
     sub-if2

@@ -1,7 +1,8 @@
 -- `first_reason` meets its contract: each return is the first reason whose test did not pass, and the options are what their walk says of them.
 -- Assumes nothing.
+use Rattle.message_table.specs.Table.{fixedLen, isNdp}
 use Rattle.receive.proofs.Options.{answers, not-clean}
-use Rattle.receive.specs.Receive.{isNdp, isClean, fixedLen, optionsOf, reasons}
+use Rattle.receive.specs.Receive.{isClean, optionsOf, reasons}
 use Rattle.receive.specs.Rules.{ownOf}
 use Rattle.receive.specs.Reasons.{firstOf}
 use Rattle.ndp_options.specs.Walk.{walk}

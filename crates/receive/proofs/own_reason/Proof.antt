@@ -1,6 +1,6 @@
 -- `own_reason` meets its contract: the type picks its rules, and the table says that what they look at is there.
 -- Assumes nothing.
-use Rattle.receive.proofs.Lengths.{of-135, of-136, of-137}
+use Rattle.message_table.proofs.Laws.{fixed-of-135, fixed-of-136, fixed-of-137}
 use Rattle.receive.specs.Reasons.{firstOf}
 use Rattle.receive.specs.Rules.{ownOf}
 use borrow.Author.Tests.{ne-eqb}
@@ -23,7 +23,7 @@ part-neighbor-solicitation-start : tie.Need-part-neighbor-solicitation-start
 part-neighbor-solicitation-start c = search needs
 
 part-neighbor-solicitation-end : tie.Need-part-neighbor-solicitation-end
-part-neighbor-solicitation-end c = let h = rw (c .match .keys3) at (c .before .before .pre .1) in omega (arith, of-135)
+part-neighbor-solicitation-end c = let h = rw (c .match .keys3) at (c .before .before .pre .1) in omega (arith, fixed-of-135)
 
 neighbor-solicitation-requires : tie.Need-neighbor-solicitation-requires
 neighbor-solicitation-requires c κs = search needs
@@ -38,7 +38,7 @@ part-neighbor-advertisement-start : tie.Need-part-neighbor-advertisement-start
 part-neighbor-advertisement-start c = search needs
 
 part-neighbor-advertisement-end : tie.Need-part-neighbor-advertisement-end
-part-neighbor-advertisement-end c = let h = rw (c .before .match .keys4) at (c .before .before .before .pre .1) in omega (arith, of-136)
+part-neighbor-advertisement-end c = let h = rw (c .before .match .keys4) at (c .before .before .before .pre .1) in omega (arith, fixed-of-136)
 
 neighbor-advertisement-requires : tie.Need-neighbor-advertisement-requires
 neighbor-advertisement-requires c κs = search needs
@@ -50,7 +50,7 @@ part-redirect-start : tie.Need-part-redirect-start
 part-redirect-start c = search needs
 
 part-redirect-end : tie.Need-part-redirect-end
-part-redirect-end c = let h = rw (c .match .keys5) at (c .before .before .pre .1) in omega (arith, of-137)
+part-redirect-end c = let h = rw (c .match .keys5) at (c .before .before .pre .1) in omega (arith, fixed-of-137)
 
 sub-redirect-2 : tie.Need-sub-redirect-2
 sub-redirect-2 c = search needs
@@ -59,7 +59,7 @@ part-redirect-start-2 : tie.Need-part-redirect-start-2
 part-redirect-start-2 c = search needs
 
 part-redirect-end-2 : tie.Need-part-redirect-end-2
-part-redirect-end-2 c = let h = rw (c .before .match .keys5) at (c .before .before .before .pre .1) in omega (arith, of-137)
+part-redirect-end-2 c = let h = rw (c .before .match .keys5) at (c .before .before .before .pre .1) in omega (arith, fixed-of-137)
 
 redirect-requires : tie.Need-redirect-requires
 redirect-requires c κs = search needs

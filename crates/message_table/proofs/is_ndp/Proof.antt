@@ -1,8 +1,8 @@
 -- `is_ndp` meets its contract: the tests are the definition's.
 -- Assumes nothing.
 use borrow.Author.Tests.{le-leb, lt-leb}
-use Rattle.receive.proofs.is_ndp.Statement.{statement}
-use Rattle.receive.proofs.is_ndp.Tie as tie
+use Rattle.message_table.proofs.is_ndp.Statement.{statement}
+use Rattle.message_table.proofs.is_ndp.Tie as tie
 
 returns : tie.Need-returns
 returns c = simp (lt-leb _ _ (c .if1 .taken))

@@ -1,16 +1,16 @@
--- What it is for bytes to begin with a prefix: their first bytes are the prefix; two of one length are then the same.
+-- What it is for bytes to begin with a prefix: their first bytes are the prefix.
 -- Assumes nothing.
-use Prim.Native.Nat.{ℕ, suc, _+_, _<_}
-use mathlib.Core.Path.{_≡_, refl, sym, ap, _∙_}
+use Prim.Native.Nat.{ℕ, _+_, _<_}
+use mathlib.Core.Path.{_≡_, refl}
 use mathlib.Core.Bool.{Bool, true, false, false≢true, _&&_}
 use mathlib.Core.List.{List, [], _∷_}
 use native.Mathlib.Numerals.{add-one}
 use native.Mathlib.Omega.{arith}
 use lib.Dec.{eqb}
 use lib.ListN.{length, getD, take, drop}
-use lib.Seq.{drop-cons, take-length}
+use lib.Seq.{drop-cons}
 use borrow.Author.Tests.{eq-eqb, eqb-true}
-use Rattle.addresses.specs.Address.{begins, same}
+use Rattle.wire.specs.Prefix.{begins}
 
 -- bytes that are fewer than the prefix
 pub too-short : (p s : List ℕ) → length s < length p → begins p s ≡ false
@@ -44,14 +44,3 @@ pub begins-itself : (p : List ℕ) → begins p p ≡ true
 unfolding begins
 begins-itself [] = refl
 begins-itself (a ∷ p) = simp (eq-eqb a a refl, begins-itself p)
-
--- a test of equality is one
-pub same-bytes : (a b : List ℕ) → same a b ≡ true → a ≡ b
-same-bytes a b e = by (eqb (length a) (length b)) refl e
-  where
-    by : (t : Bool) → eqb (length a) (length b) ≡ t → t && begins a b ≡ true → a ≡ b
-    by true q e = sym (begins-with a b e) ∙ rw (eqb-true (length a) (length b) q) (take-length b)
-    by false q e = absurd (false≢true e)
-
-pub same-itself : (a : List ℕ) → same a a ≡ true
-same-itself a = simp (eq-eqb (length a) (length a) refl, begins-itself a)

@@ -1,15 +1,15 @@
 -- `begins_with` meets its contract: what is left of both at `i` begins as the whole does.
 -- Assumes nothing.
-use Rattle.addresses.proofs.Prefix.{too-short, one-on}
-use Rattle.addresses.specs.Address.{begins}
+use Rattle.wire.proofs.Prefix.{too-short, one-on}
+use Rattle.wire.specs.Prefix.{begins}
 use borrow.Author.Tests.{eq-eqb, ne-eqb}
 use lib.Seq.{drop-length}
 use lib.ListN.{length, drop}
 use native.Mathlib.Omega.{arith}
 use mathlib.Core.Path.{_≡_, refl, sym, _∙_}
 use Prim.Native.Nat.{_≤_, _-_}
-use Rattle.addresses.proofs.begins_with.Statement.{statement}
-use Rattle.addresses.proofs.begins_with.Tie as tie
+use Rattle.wire.proofs.begins_with.Statement.{statement}
+use Rattle.wire.proofs.begins_with.Tie as tie
 
 abbrev Inv-loop : tie.InvT-loop
 Inv-loop bytes prefix i₀ i = (i ≤ length prefix) × (begins prefix bytes ≡ begins (drop i prefix) (drop i bytes))

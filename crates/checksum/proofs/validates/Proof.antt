@@ -1,9 +1,9 @@
--- `listing::validates` meets its contract: the verdict is what `verify` promises of it.
+-- `validates` meets its contract: the verdict is what `verify` promises of it.
 -- Assumes nothing.
 use Rattle.refusal.proofs.Paper.{refusal-numbered}
 use borrow.Author.Needs.{needs}
-use Rattle.listing.proofs.validates.Statement.{statement}
-use Rattle.listing.proofs.validates.Tie as tie
+use Rattle.checksum.proofs.validates.Statement.{statement}
+use Rattle.checksum.proofs.validates.Tie as tie
 
 verify-requires : tie.Need-verify-requires
 verify-requires c κs = search needs
