@@ -28,7 +28,6 @@ use denote.Signature.{namedLft}
 use denote.Slice.{ShrSlice, shr-slice-lawful}
 use denote.Steps.{peeks, heard, nothing}
 use denote.Struct.Laws as LL
-use denote.Struct.Rest.{rest}
 use denote.Triple.Statement.{Contract, Triple}
 use denote.Triple.Call.{calls-at}
 use denote.Triple.Entry.{onEntry}
