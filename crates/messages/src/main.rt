@@ -1,0 +1,209 @@
+// The five messages of Neighbor Discovery (RFC 4861, sections 4.1 to 4.5), as a sender makes them with this library: options, fixed part, packet,
+// record. Each is taken as a receiver would take it before its record goes to standard output. `tests/messages.py` makes the bytes that must come
+// out, without the library.
+use capture::part;
+use capture::write_record;
+use icmpv6_headers::neighbor_advertisement_header::NeighborAdvertisementHeader;
+use icmpv6_headers::router_advertisement_header::RouterAdvertisementHeader;
+use icmpv6_payload::neighbor_advertisement_payload::NeighborAdvertisementPayload;
+use icmpv6_payload::neighbor_solicitation_payload::NeighborSolicitationPayload;
+use icmpv6_payload::redirect_payload::RedirectPayload;
+use icmpv6_payload::router_advertisement_payload::RouterAdvertisementPayload;
+use icmpv6_payload_slice::Icmpv6PayloadSlice;
+use icmpv6_payload_slice::PayloadRead;
+use icmpv6_type::Icmpv6Type;
+use lent::Put;
+use libc::STDOUT_FILENO;
+use ndp_option::link_layer_address_option::LinkLayerAddressOption;
+use ndp_options::Step;
+use option_writer::write_link_layer_address;
+use option_writer::write_mtu;
+use option_writer::write_prefix_information;
+use output::Written;
+use output::put_at;
+use prefix_information::PrefixInformation;
+use receive::Received;
+use receive::receive_check;
+use writer::write_packet;
+
+// fe80::1, fe80::2, ff02::1, ff02::2, ff02::1:ff00:2 and 2001:db8::9.
+const ROUTER: [u8; 16] = [0xfe, 0x80, 0, 0, 0, 0, 0, 0, 0, 0, 0, 0, 0, 0, 0, 1];
+
+const HOST: [u8; 16] = [0xfe, 0x80, 0, 0, 0, 0, 0, 0, 0, 0, 0, 0, 0, 0, 0, 2];
+
+const ALL_NODES: [u8; 16] = [0xff, 0x02, 0, 0, 0, 0, 0, 0, 0, 0, 0, 0, 0, 0, 0, 1];
+
+const ALL_ROUTERS: [u8; 16] = [0xff, 0x02, 0, 0, 0, 0, 0, 0, 0, 0, 0, 0, 0, 0, 0, 2];
+
+const SOLICITED: [u8; 16] = [0xff, 0x02, 0, 0, 0, 0, 0, 0, 0, 0, 0, 1, 0xff, 0, 0, 2];
+
+const ELSEWHERE: [u8; 16] = [0x20, 0x01, 0x0d, 0xb8, 0, 0, 0, 0, 0, 0, 0, 0, 0, 0, 0, 9];
+
+const PREFIX: [u8; 16] = [0x20, 0x01, 0x0d, 0xb8, 0, 0, 0, 0, 0, 0, 0, 0, 0, 0, 0, 0];
+
+const LINK_LAYER: [u8; 6] = [2, 0, 0, 0, 0, 1];
+
+fn say(text: &[u8]) {
+    io::write_all(STDOUT_FILENO, text);
+}
+
+// Whether a receiver is handed an option of the packet.
+fn has_options(packet: &[u8]) -> bool {
+    let payload = icmpv6::icmpv6_slice::payload(packet);
+    match Icmpv6PayloadSlice::from_packet(packet) {
+        PayloadRead::Refused(_) => false,
+        PayloadRead::Payload(part) => {
+            match ndp_walker::first_step(part.options(payload)) {
+                Step::Handed(_, _) => true,
+                Step::End => false,
+                Step::Refused(_, _) => false,
+                Step::Stopped => false,
+            }
+        }
+    }
+}
+
+fn put_record(source: &[u8; 16], destination: &[u8; 16], packet: &[u8]) {
+    let mut out = [0u8; 256];
+    match write_record(255, source, destination, packet, &mut out) {
+        Put::To(n) => say(part(&out, 0, n)),
+        Put::Refused(_) => say(b"no record\n"),
+    }
+}
+
+fn send(icmp_type: Icmpv6Type, source: &[u8; 16], destination: &[u8; 16], payload: &[u8]) {
+    let mut packet = [0u8; 128];
+    match write_packet(icmp_type, source, destination, payload, &mut packet) {
+        Written::Length(n) => receive(part(&packet, 0, n), source, destination),
+        Written::Refused(_) => say(b"not written\n"),
+    }
+}
+
+fn receive(packet: &[u8], source: &[u8; 16], destination: &[u8; 16]) {
+    match receive_check(packet, 255, source, destination) {
+        Received::Refused(_) => say(b"not received\n"),
+        Received::Accepted => {
+            if has_options(packet) {
+                put_record(source, destination, packet);
+            } else {
+                say(b"no options\n");
+            }
+        }
+    }
+}
+
+// An option over the bytes from a place on.
+fn put_link_layer(out: &mut [u8], at: usize, whose: LinkLayerAddressOption) {
+    let mut option = [0u8; 8];
+    write_link_layer_address(whose, LINK_LAYER, &mut option);
+    put_at(out, at, &option);
+}
+
+fn put_mtu(out: &mut [u8], at: usize, mtu: u32) {
+    let mut option = [0u8; 8];
+    write_mtu(mtu, &mut option);
+    put_at(out, at, &option);
+}
+
+fn put_prefix(out: &mut [u8], at: usize) {
+    let information = PrefixInformation {
+        prefix_length: 64,
+        on_link: true,
+        autonomous_address_configuration: true,
+        valid_lifetime: 86400,
+        preferred_lifetime: 14400,
+        prefix: PREFIX,
+    };
+    let mut option = [0u8; 32];
+    write_prefix_information(information, &mut option);
+    put_at(out, at, &option);
+}
+
+fn router_solicitation() {
+    let mut payload = [0u8; 8];
+    put_link_layer(&mut payload, 0, LinkLayerAddressOption::Source);
+    send(
+        Icmpv6Type::RouterSolicitation,
+        &HOST,
+        &ALL_ROUTERS,
+        &payload,
+    );
+}
+
+fn router_advertisement() {
+    let header = RouterAdvertisementHeader {
+        cur_hop_limit: 64,
+        managed_address_config: false,
+        other_config: true,
+        router_lifetime: 1800,
+    };
+    let timers = RouterAdvertisementPayload {
+        reachable_time: 30000,
+        retrans_timer: 1000,
+    };
+    let mut payload = [0u8; 56];
+    put_at(&mut payload, 0, &timers.to_bytes());
+    put_link_layer(&mut payload, 8, LinkLayerAddressOption::Source);
+    put_mtu(&mut payload, 16, 1480);
+    put_prefix(&mut payload, 24);
+    send(
+        Icmpv6Type::RouterAdvertisement(header),
+        &ROUTER,
+        &ALL_NODES,
+        &payload,
+    );
+}
+
+fn neighbor_solicitation() {
+    let fixed = NeighborSolicitationPayload {
+        target_address: HOST,
+    };
+    let mut payload = [0u8; 24];
+    put_at(&mut payload, 0, &fixed.to_bytes());
+    put_link_layer(&mut payload, 16, LinkLayerAddressOption::Source);
+    send(
+        Icmpv6Type::NeighborSolicitation,
+        &ROUTER,
+        &SOLICITED,
+        &payload,
+    );
+}
+
+fn neighbor_advertisement() {
+    let header = NeighborAdvertisementHeader {
+        router: false,
+        solicited: true,
+        override_flag: true,
+    };
+    let fixed = NeighborAdvertisementPayload {
+        target_address: HOST,
+    };
+    let mut payload = [0u8; 24];
+    put_at(&mut payload, 0, &fixed.to_bytes());
+    put_link_layer(&mut payload, 16, LinkLayerAddressOption::Target);
+    send(
+        Icmpv6Type::NeighborAdvertisement(header),
+        &HOST,
+        &ROUTER,
+        &payload,
+    );
+}
+
+fn redirect() {
+    let fixed = RedirectPayload {
+        target_address: ROUTER,
+        destination_address: ELSEWHERE,
+    };
+    let mut payload = [0u8; 40];
+    put_at(&mut payload, 0, &fixed.to_bytes());
+    put_link_layer(&mut payload, 32, LinkLayerAddressOption::Target);
+    send(Icmpv6Type::Redirect, &ROUTER, &HOST, &payload);
+}
+
+fn main() {
+    router_solicitation();
+    router_advertisement();
+    neighbor_solicitation();
+    neighbor_advertisement();
+    redirect();
+}
