@@ -7,7 +7,7 @@ use mathlib.Core.Path.{_≡_, refl, ap}
 use mathlib.Core.List.{[]}
 use lib.Seq.{take-all}
 use lib.ListN.{length, take, drop, length-drop}
-use Rattle.lent.proofs.Wrote.{nothing}
+use Rattle.output.proofs.Wrote.{nothing}
 use Rattle.listing.proofs.Text.{none-shown, part-cut, all-shown}
 use borrow.Author.Needs.{needs}
 use Rattle.listing.proofs.put_options.Statement.{statement}
@@ -16,7 +16,7 @@ use Rattle.listing.proofs.put_options.Tie as tie
 returns : tie.Need-returns
 returns c =
     let a = c .before .before .before .args in
-    (rw (none-shown (a .kind) (now (a .packet)) (c .if1 .taken)) (nothing (now (a .out)) (a .at) [] refl), omega arith)
+    (rw (none-shown (a .kind) (now (a .packet)) (c .if1 .taken)) (nothing (now (a .out)) (a .at)), omega arith)
 
 fixed-len-requires : tie.Need-fixed-len-requires
 fixed-len-requires c κs = search needs
