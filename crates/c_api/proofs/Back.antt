@@ -23,7 +23,7 @@ use Rattle.receive.specs.declared.Received.{Received as ReceivedAnswer}
 use Rattle.receive.specs.declared.Received.the-variants.{Accepted, Refused as NotReceived}
 use Rattle.output.specs.Output.{writtenTold}
 use Rattle.output.specs.declared.Written.{Written as WrittenAnswer}
-use Rattle.output.specs.declared.Written.the-variants.{Length, Refused as NotWritten}
+use Rattle.output.specs.declared.Written.the-variants.{To, Refused as NotWritten}
 use Rattle.ndp_options.specs.Told.{kindNumber, stepTold}
 use Rattle.ndp_options.specs.declared.Step.{Step}
 use Rattle.ndp_options.specs.declared.Step.the-variants.{Handed, End, Refused as StepRefused, Stopped}
@@ -66,11 +66,11 @@ received-back packet (NotReceived r) = simp (refusal-numbered r) (ap NotReceived
 
 -- ---- the writer
 abbrev writtenFrom : Written → WrittenAnswer
-writtenFrom w = cond (eqb (w .answer) WRITTEN) (Length (w .length)) (NotWritten (why (w .refusal) (w .value)))
+writtenFrom w = cond (eqb (w .answer) WRITTEN) (To (w .length)) (NotWritten (why (w .refusal) (w .value)))
 
 pub written-back : (r : WrittenAnswer) → writtenFrom (writtenFor (writtenTold r)) ≡ r
 unfolding writtenFor
-written-back (Length n) = refl
+written-back (To n) = refl
 written-back (NotWritten r) = simp (refusal-numbered r) (ap NotWritten (refusal-back r))
 
 -- ---- a step

@@ -26,11 +26,11 @@ pub extern "C" fn brothladder_write(
     out: &mut [u8],
 ) -> Written
     ensures answers { λ r. ⌜ r ≡ writtenFor (writeOf (valueOf «type_u8» «code_u8» bytes5to8) (now (payload .entry)) (now (out .entry))) ⌝ }
-    ensures lent { λ r. ⌜ now (out .exit) ≡ leaves (writeOf (valueOf «type_u8» «code_u8» bytes5to8) (now (payload .entry)) (now (out .entry))) (packetOf (now (source .entry)) (now (destination .entry)) (valueOf «type_u8» «code_u8» bytes5to8) (now (payload .entry))) (now (out .entry)) ⌝ }
+    ensures lent { λ r. ⌜ now (out .exit) ≡ leaves (writeOf (valueOf «type_u8» «code_u8» bytes5to8) (now (payload .entry)) (now (out .entry))) (now (out .entry)) 0 (packetOf (now (source .entry)) (now (destination .entry)) (valueOf «type_u8» «code_u8» bytes5to8) (now (payload .entry))) ⌝ }
 {
     let t = Icmpv6Type::from_parts(type_u8, code_u8, wire::u32_to_be(bytes5to8));
     match write_packet(t, source, destination, payload, out) {
-        output::Written::Length(length) => Written {
+        output::Written::To(length) => Written {
             answer: answer::WRITTEN,
             refusal: 0,
             value: [0, 0, 0, 0],

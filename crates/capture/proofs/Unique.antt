@@ -6,7 +6,7 @@ use mathlib.Core.Path.{refl, sym, _∙_, ap}
 use denote.Ref.{now}
 use Rattle.paper.specs.Only.{Only, OnlyBy}
 use Rattle.paper.proofs.Facts.{one, two}
-use Rattle.lent.proofs.Paper.{put-lossless}
+use Rattle.output.proofs.Paper.{written-lossless}
 use Rattle.capture.proofs.Paper.{next-lossless}
 use Rattle.capture.proofs.next_record as next-record
 use Rattle.capture.proofs.part as part
@@ -20,4 +20,4 @@ part-unique M 𝓤 H A m f κs a g x y v w = one 𝓤 (λ p q. (p ∙ sym q, ref
 
 pub write-record-unique : Only write-record.ended (λ M 𝓤. write-record.clauses 𝓤)
 write-record-unique M 𝓤 H A m f κs a g x y v w =
-    two 𝓤 (λ p out q out′. (put-lossless x y (p ∙ sym q), ap (λ (l : List ℕ). (tt, (tt, (tt, (tt, (l, tt)))))) (out ∙ sym out′)))
+    two 𝓤 (λ p out q out′. (written-lossless x y (p ∙ sym q), ap (λ (l : List ℕ). (tt, (tt, (tt, (tt, (l, tt)))))) (out ∙ sym out′)))

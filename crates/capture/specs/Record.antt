@@ -1,11 +1,12 @@
 -- Document 01, "The dump and its records": mark 49 36, hop limit, source 16, destination 16, length 2 high byte first, packet.
 -- Assumes nothing.
-use Prim.Native.Nat.{ℕ, _+_, _-_, _*_, _/_, _%_, _^_}
+use Prim.Native.Nat.{ℕ, _+_, _-_, _/_, _%_, _^_}
 use mathlib.Core.Bool.{Bool, true, false, cond, not, _&&_}
 use mathlib.Core.List.{List, [], _∷_, _++_}
 use lib.Dec.{ltb, eqb}
 use lib.ListN.{length, getD, take, drop}
 use Rattle.paper.specs.Paper.{Paper, refuses, gives}
+use Rattle.wire.specs.Wire.{word16}
 
 -- "I6" in ASCII
 abbrev pub mark : List ℕ
@@ -27,7 +28,7 @@ abbrev pub destination : List ℕ → List ℕ
 destination s = take 16 (drop 19 s)
 
 abbrev pub packetLen : List ℕ → ℕ
-packetLen s = 256 * getD s 35 0 + getD s 36 0
+packetLen s = word16 (getD s 35 0) (getD s 36 0)
 
 abbrev pub packet : List ℕ → List ℕ
 packet s = take (packetLen s) (drop 37 s)

@@ -1,12 +1,11 @@
 // One record of a capture, read and written (document 01, "The dump and its records").
 ghost use mathlib.Core.Path.{_≡_};
-ghost use Prim.Native.Nat.{_+_, _*_, _≤_, _<_};
+ghost use Prim.Native.Nat.{_+_, _<_};
 ghost use lib.ListN.{length, take, drop};
-ghost use Rattle.lent.specs.Wrote.{Wrote};
-ghost use Rattle.lent.specs.Put.{paper, putOf, leaves};
+ghost use Rattle.output.specs.Output.{writtenTold, roomFor, leaves};
 ghost use Rattle.capture.specs.Record.{recordBytes, recordOf, placed, nextOf, recorded};
 ghost use Rattle.capture.specs.Paper.{nextPaper};
-use lent::Put;
+use output::Written;
 use refusal::Refusal;
 
 // The bytes before the packet: the mark, a hop limit, two addresses and the packet's length.
@@ -59,7 +58,7 @@ fn first_record(left: &[u8], at: usize, place: u64) -> Next
     if left.len() < HEAD_LEN {
         return Next::Refused(Refusal::CaptureEnds { place });
     }
-    let len = word(left[35], left[36]);
+    let len = wire::u16_from_be(left[35], left[36]) as usize;
     if MAX_PACKET_LEN < len {
         return Next::Refused(Refusal::LongRecord { length: len });
     }
@@ -74,13 +73,6 @@ fn first_record(left: &[u8], at: usize, place: u64) -> Next
         len,
         next: at + HEAD_LEN + len,
     })
-}
-
-// Two bytes, the high one first.
-fn word(high: u8, low: u8) -> usize
-    ensures { λ r. ⌜ r ≡ 256 * high + low ⌝ }
-{
-    256 * high as usize + low as usize
 }
 
 // The bytes from a place on, `len` of them or as many as there are: how an address or the packet of a record is reached.
@@ -104,34 +96,22 @@ pub fn write_record(
     destination: &[u8; 16],
     packet: &[u8],
     out: &mut [u8],
-) -> Put
-    ensures answers { λ r. ⌜ paper r ≡ recorded (now (packet .entry)) (putOf (now (out .entry)) 0 (recordBytes «hop_limit» (now (source .entry)) (now (destination .entry)) (now (packet .entry)))) ⌝ }
-    ensures lent { λ r. ⌜ now (out .exit) ≡ leaves (recorded (now (packet .entry)) (putOf (now (out .entry)) 0 (recordBytes «hop_limit» (now (source .entry)) (now (destination .entry)) (now (packet .entry))))) (now (out .entry)) 0 (recordBytes «hop_limit» (now (source .entry)) (now (destination .entry)) (now (packet .entry))) ⌝ }
+) -> Written
+    ensures answers { λ r. ⌜ writtenTold r ≡ recorded (now (packet .entry)) (roomFor (37 + length (now (packet .entry))) (now (out .entry)) 0) ⌝ }
+    ensures lent { λ r. ⌜ now (out .exit) ≡ leaves (recorded (now (packet .entry)) (roomFor (37 + length (now (packet .entry))) (now (out .entry)) 0)) (now (out .entry)) 0 (recordBytes «hop_limit» (now (source .entry)) (now (destination .entry)) (now (packet .entry))) ⌝ }
 {
     let len = packet.len();
     if MAX_PACKET_LEN < len {
-        return Put::Refused(Refusal::LongRecord { length: len });
+        return Written::Refused(Refusal::LongRecord { length: len });
     }
-    let from: &[u8] = source;
-    let to: &[u8] = destination;
-    let total = HEAD_LEN + len;
-    if out.len() < total {
-        return Put::Refused(Refusal::ShortOutput { needed: total });
+    let needed = HEAD_LEN + len;
+    if out.len() < needed {
+        return Written::Refused(Refusal::ShortOutput { needed });
     }
-    let a = put_bytes(out, 0, b"I6");
-    let b = put_bytes(out, a, &[hop_limit]);
-    let c = put_bytes(out, b, from);
-    let d = put_bytes(out, c, to);
-    let e = put_bytes(out, d, &[(len / 256) as u8, (len % 256) as u8]);
-    put_bytes(out, e, packet);
-    Put::To(total)
-}
-
-// The bytes, over those from a place on; answers the place after them.
-fn put_bytes(out: &mut [u8], at: usize, bytes: &[u8]) -> usize
-    requires { ⌜ at + length (now bytes) ≤ length (now out) ⌝ }
-    ensures { λ r. ⌜ Wrote (now (out .entry)) at (now (bytes .entry)) (now (out .exit)) r ⌝ }
-{
-    let n = bytes::copy(bytes, &mut out[at..]);
-    at + n
+    output::put(out, 0, b"I6");
+    output::put(out, 2, &[hop_limit]);
+    output::put(out, 3, source);
+    output::put(out, 19, destination);
+    output::put(out, 35, &wire::u16_to_be(len as u16));
+    output::put(out, HEAD_LEN, packet)
 }

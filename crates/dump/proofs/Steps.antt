@@ -16,7 +16,7 @@ use Rattle.refusal.specs.declared.Refusal.{Refusal}
 use Rattle.refusal.specs.Table.{number}
 use Rattle.refusal.specs.Paper.{refusal}
 use Rattle.refusal.proofs.Paper.{refusal-numbered}
-use Rattle.lent.proofs.Wrote.{_then_, nothing, start}
+use Rattle.output.proofs.Wrote.{_then_, nothing, start}
 use Rattle.capture.specs.declared.Record.{Record}
 use Rattle.capture.specs.Record.{hopLimit, source, destination, packet, packetLen, recordOf, isRecord, placeIn}
 use Rattle.capture.specs.Capture.{settled, recordLen, captureFrom}
@@ -125,7 +125,7 @@ module _ (place : ℕ) (bytes : List ℕ) (end : Bool) (out : List ℕ) (s : Pro
         within = omega arith;
         counted = omega arith;
         text = [];
-        wrote = rw put (nothing out (s .put) [] refl);
+        wrote = rw put (nothing out (s .put));
         fits = omega arith;
         more = λ d t. rw (at, count);
         last = λ d. absurd (false≢true (sym done ∙ d));
@@ -185,7 +185,7 @@ begins place bytes end out s inside counted fits going hungry done =
       within = inside;
       counted = counted;
       text = [];
-      wrote = nothing out (s .put) [] refl;
+      wrote = nothing out (s .put);
       fits = fits;
       more = λ d t. refl;
       last = λ d. absurd (false≢true (sym done ∙ d));

@@ -5,7 +5,7 @@ use mathlib.Core.Path.{_≡_}
 use mathlib.Core.Bool.{Bool, true, false, cond}
 use mathlib.Core.List.{List, [], _++_}
 use lib.ListN.{length, take, drop}
-use Rattle.lent.specs.Wrote.{Wrote}
+use Rattle.output.specs.Output.{Wrote}
 use Rattle.capture.specs.Record.{hopLimit, source, destination, packet}
 use Rattle.capture.specs.Capture.{recordLen, captureFrom}
 use Rattle.listing.specs.Packet.{recordText}

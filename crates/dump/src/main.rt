@@ -9,8 +9,8 @@ ghost use Rattle.lines.specs.Line.{text};
 ghost use Rattle.dump.specs.Dump.{Record·put, Line·put, Stepped, Scanned, Filled·in, Held, Refilled, Turned};
 use capture::Next;
 use capture::Record;
-use lent::Put;
 use lines::Line;
+use output::Written;
 
 // No piece begins farther in the capture: up to there no count and no place can wrap.
 const FARTHEST: u64 = 4611686018427387904;
@@ -78,7 +78,7 @@ fn list_record(bytes: &[u8], out: &mut [u8], place: u64, s: Progress, found: Rec
         &bytes[from..to],
     );
     match put {
-        Put::To(next) => Progress {
+        Written::To(next) => Progress {
             at: to,
             count,
             put: next,
@@ -87,7 +87,7 @@ fn list_record(bytes: &[u8], out: &mut [u8], place: u64, s: Progress, found: Rec
             done: false,
         },
         // Never: there is room.
-        Put::Refused(_) => s,
+        Written::Refused(_) => s,
     }
 }
 
@@ -97,7 +97,7 @@ fn list_last(out: &mut [u8], s: Progress, line: Line) -> Progress
     ensures { λ r. ⌜ Line·put (text line) (now (out .entry)) (now (out .exit)) s r ⌝ }
 {
     match lines::put_line(out, s.put, line) {
-        Put::To(next) => Progress {
+        Written::To(next) => Progress {
             at: s.at,
             count: s.count,
             put: next,
@@ -106,7 +106,7 @@ fn list_last(out: &mut [u8], s: Progress, line: Line) -> Progress
             done: true,
         },
         // Never: there is room.
-        Put::Refused(_) => s,
+        Written::Refused(_) => s,
     }
 }
 
@@ -140,7 +140,7 @@ fn step(bytes: &[u8], out: &mut [u8], place: u64, ended: bool, s: Progress) -> P
     ensures way { λ r. ⌜ Stepped place (now (bytes .entry)) ended (now (out .entry)) (now (out .exit)) s r ⌝ }
     ensures moved { λ r. ⌜ (r .going ≡ true → s .at < r .at) ⌝ }
 {
-    if lent::room(out, s.put) < listing::ROOM {
+    if output::room(out, s.put) < listing::ROOM {
         return wait(s, false);
     }
     match capture::next_record(bytes, s.at, place) {
@@ -351,8 +351,8 @@ fn title(out: &mut [u8]) -> bool
     requires { ⌜ 128 ≤ length (now out) ⌝ }
 {
     match lines::put_line(out, 0, Line::Title) {
-        Put::To(n) => flush(out, n),
+        Written::To(n) => flush(out, n),
         // Never: there is room.
-        Put::Refused(_) => false,
+        Written::Refused(_) => false,
     }
 }

@@ -15,9 +15,9 @@ impl RedirectPayload {
         ensures { λ r. ⌜ (r .«target_address» ≡ take 16 bytes) × (r .«destination_address» ≡ drop 16 bytes) ⌝ }
     {
         let mut target_address = [0; 16];
-        output::put_at(&mut target_address, 0, &bytes[..16]);
+        output::put(&mut target_address, 0, &bytes[..16]);
         let mut destination_address = [0; 16];
-        output::put_at(&mut destination_address, 0, &bytes[16..]);
+        output::put(&mut destination_address, 0, &bytes[16..]);
         Self {
             target_address,
             destination_address,
@@ -30,8 +30,8 @@ impl RedirectPayload {
         let target = self.target_address;
         let destination = self.destination_address;
         let mut bytes = [0; 32];
-        output::put_at(&mut bytes, 0, &target);
-        output::put_at(&mut bytes, 16, &destination);
+        output::put(&mut bytes, 0, &target);
+        output::put(&mut bytes, 16, &destination);
         bytes
     }
 }

@@ -3,12 +3,11 @@ ghost use mathlib.Core.Path.{_≡_};
 ghost use mathlib.Core.List.{[], _∷_, _++_};
 ghost use Prim.Native.Nat.{_+_, _≤_, _<_};
 ghost use lib.ListN.{length};
-ghost use Rattle.lent.specs.Wrote.{Wrote};
+ghost use Rattle.output.specs.Output.{writtenTold, roomFor, leaves, Wrote};
 ghost use Rattle.lines.specs.Digits.{decimal, pair, hex4, glyph as Digits·glyph};
 ghost use Rattle.lines.specs.Text.{field, newline};
-ghost use Rattle.lent.specs.Put.{paper, putOf, leaves};
 ghost use Rattle.lines.specs.Line.{wordOf, okWord, text};
-use lent::Put;
+use output::Written;
 
 // The words for the message types.
 pub enum Word {
@@ -69,16 +68,16 @@ pub enum Line {
 pub const LONGEST: usize = 128;
 
 // Puts a line over the bytes from a place on, or nothing where it does not fit whole: the place after it, or refusal 9.
-pub fn put_line(out: &mut [u8], at: usize, line: Line) -> Put
-    ensures answers { λ r. ⌜ (paper r ≡ putOf (now (out .entry)) at (text line)) × (length (text line) ≤ 128) ⌝ }
-    ensures lent { λ r. ⌜ now (out .exit) ≡ leaves (putOf (now (out .entry)) at (text line)) (now (out .entry)) at (text line) ⌝ }
+pub fn put_line(out: &mut [u8], at: usize, line: Line) -> Written
+    ensures answers { λ r. ⌜ (writtenTold r ≡ roomFor (length (text line)) (now (out .entry)) at) × (length (text line) ≤ 128) ⌝ }
+    ensures lent { λ r. ⌜ now (out .exit) ≡ leaves (roomFor (length (text line)) (now (out .entry)) at) (now (out .entry)) at (text line) ⌝ }
 {
-    if LONGEST <= lent::room(out, at) {
-        return Put::To(put_text(out, at, line));
+    if LONGEST <= output::room(out, at) {
+        return Written::To(put_text(out, at, line));
     }
     let mut own = [0u8; 128];
     let n = put_text(&mut own, 0, line);
-    lent::put_bytes(out, at, &own[..n])
+    output::put(out, at, &own[..n])
 }
 
 // Each of the following puts its text over the bytes from a place on, and answers the place after it.
@@ -264,10 +263,14 @@ fn put_byte(out: &mut [u8], at: usize, byte: u8) -> usize
     at + 1
 }
 
+// Bytes that fit.
 fn put_bytes(out: &mut [u8], at: usize, bytes: &[u8]) -> usize
     requires { ⌜ at + length (now bytes) ≤ length (now out) ⌝ }
     ensures { λ r. ⌜ Wrote (now (out .entry)) at (now (bytes .entry)) (now (out .exit)) r ⌝ }
 {
-    let n = bytes::copy(bytes, &mut out[at..]);
-    at + n
+    match output::put(out, at, bytes) {
+        Written::To(next) => next,
+        // Never: they fit.
+        Written::Refused(_) => at,
+    }
 }

@@ -2,8 +2,7 @@
 ghost use mathlib.Core.Path.{_≡_};
 ghost use Prim.Native.Nat.{_+_, _*_, _≤_};
 ghost use lib.ListN.{length, getD};
-ghost use Rattle.lent.specs.Wrote.{Wrote};
-ghost use Rattle.lent.specs.Put.{paper, putOf, leaves};
+ghost use Rattle.output.specs.Output.{writtenTold, roomFor, leaves, Wrote};
 ghost use Rattle.capture.specs.Record.{recorded};
 ghost use Rattle.icmpv6_type.specs.Value.{typeTold};
 ghost use Rattle.receive.specs.Receive.{receiveOf};
@@ -13,11 +12,11 @@ ghost use Rattle.listing.specs.Packet.{wordFor, recvOf, walkText, option
 use icmpv6::icmpv6_header::HeaderRead;
 use icmpv6::icmpv6_header::Icmpv6Header;
 use icmpv6_type::Icmpv6Type;
-use lent::Put;
 use lines::Line;
 use lines::Word;
 use ndp_options::Cursor;
 use ndp_options::Step;
+use output::Written;
 use receive::Received;
 use refusal::Refusal;
 
@@ -34,16 +33,16 @@ pub fn put_record(
     source: &[u8; 16],
     destination: &[u8; 16],
     packet: &[u8],
-) -> Put
-    ensures answers { λ r. ⌜ (paper r ≡ recorded (now (packet .entry)) (putOf (now (out .entry)) at (recordText number place «hop_limit» (now (source .entry)) (now (destination .entry)) (now (packet .entry))))) × (length (now (packet .entry)) ≤ 2048 → length (recordText number place «hop_limit» (now (source .entry)) (now (destination .entry)) (now (packet .entry))) ≤ 33024) ⌝ }
-    ensures lent { λ r. ⌜ now (out .exit) ≡ leaves (recorded (now (packet .entry)) (putOf (now (out .entry)) at (recordText number place «hop_limit» (now (source .entry)) (now (destination .entry)) (now (packet .entry))))) (now (out .entry)) at (recordText number place «hop_limit» (now (source .entry)) (now (destination .entry)) (now (packet .entry))) ⌝ }
+) -> Written
+    ensures answers { λ r. ⌜ (writtenTold r ≡ recorded (now (packet .entry)) (roomFor (length (recordText number place «hop_limit» (now (source .entry)) (now (destination .entry)) (now (packet .entry)))) (now (out .entry)) at)) × (length (now (packet .entry)) ≤ 2048 → length (recordText number place «hop_limit» (now (source .entry)) (now (destination .entry)) (now (packet .entry))) ≤ 33024) ⌝ }
+    ensures lent { λ r. ⌜ now (out .exit) ≡ leaves (recorded (now (packet .entry)) (roomFor (length (recordText number place «hop_limit» (now (source .entry)) (now (destination .entry)) (now (packet .entry)))) (now (out .entry)) at)) (now (out .entry)) at (recordText number place «hop_limit» (now (source .entry)) (now (destination .entry)) (now (packet .entry))) ⌝ }
 {
     let len = packet.len();
     if capture::MAX_PACKET_LEN < len {
-        return Put::Refused(Refusal::LongRecord { length: len });
+        return Written::Refused(Refusal::LongRecord { length: len });
     }
-    if ROOM <= lent::room(out, at) {
-        return Put::To(put_text(
+    if ROOM <= output::room(out, at) {
+        return Written::To(put_text(
             out,
             at,
             number,
@@ -65,7 +64,7 @@ pub fn put_record(
         destination,
         packet,
     );
-    lent::put_bytes(out, at, &own[..n])
+    output::put(out, at, &own[..n])
 }
 
 // Each of the following puts its text over the bytes from a place on, and answers the place after it.
@@ -262,7 +261,7 @@ fn put_line(out: &mut [u8], at: usize, line: Line) -> usize
     ensures short { λ r. ⌜ r ≤ at + 128 ⌝ }
 {
     match lines::put_line(out, at, line) {
-        Put::To(n) => n,
-        Put::Refused(_) => at,
+        Written::To(n) => n,
+        Written::Refused(_) => at,
     }
 }

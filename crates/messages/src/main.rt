@@ -12,7 +12,6 @@ use icmpv6_payload::router_advertisement_payload::RouterAdvertisementPayload;
 use icmpv6_payload_slice::Icmpv6PayloadSlice;
 use icmpv6_payload_slice::PayloadRead;
 use icmpv6_type::Icmpv6Type;
-use lent::Put;
 use libc::STDOUT_FILENO;
 use ndp_option::link_layer_address_option::LinkLayerAddressOption;
 use ndp_options::Step;
@@ -20,7 +19,7 @@ use option_writer::write_link_layer_address;
 use option_writer::write_mtu;
 use option_writer::write_prefix_information;
 use output::Written;
-use output::put_at;
+use output::put;
 use prefix_information::PrefixInformation;
 use receive::Received;
 use receive::receive_check;
@@ -66,15 +65,15 @@ fn has_options(packet: &[u8]) -> bool {
 fn put_record(source: &[u8; 16], destination: &[u8; 16], packet: &[u8]) {
     let mut out = [0u8; 256];
     match write_record(255, source, destination, packet, &mut out) {
-        Put::To(n) => say(part(&out, 0, n)),
-        Put::Refused(_) => say(b"no record\n"),
+        Written::To(n) => say(part(&out, 0, n)),
+        Written::Refused(_) => say(b"no record\n"),
     }
 }
 
 fn send(icmp_type: Icmpv6Type, source: &[u8; 16], destination: &[u8; 16], payload: &[u8]) {
     let mut packet = [0u8; 128];
     match write_packet(icmp_type, source, destination, payload, &mut packet) {
-        Written::Length(n) => receive(part(&packet, 0, n), source, destination),
+        Written::To(n) => receive(part(&packet, 0, n), source, destination),
         Written::Refused(_) => say(b"not written\n"),
     }
 }
@@ -96,13 +95,13 @@ fn receive(packet: &[u8], source: &[u8; 16], destination: &[u8; 16]) {
 fn put_link_layer(out: &mut [u8], at: usize, whose: LinkLayerAddressOption) {
     let mut option = [0u8; 8];
     write_link_layer_address(whose, LINK_LAYER, &mut option);
-    put_at(out, at, &option);
+    put(out, at, &option);
 }
 
 fn put_mtu(out: &mut [u8], at: usize, mtu: u32) {
     let mut option = [0u8; 8];
     write_mtu(mtu, &mut option);
-    put_at(out, at, &option);
+    put(out, at, &option);
 }
 
 fn put_prefix(out: &mut [u8], at: usize) {
@@ -116,7 +115,7 @@ fn put_prefix(out: &mut [u8], at: usize) {
     };
     let mut option = [0u8; 32];
     write_prefix_information(information, &mut option);
-    put_at(out, at, &option);
+    put(out, at, &option);
 }
 
 fn router_solicitation() {
@@ -142,7 +141,7 @@ fn router_advertisement() {
         retrans_timer: 1000,
     };
     let mut payload = [0u8; 56];
-    put_at(&mut payload, 0, &timers.to_bytes());
+    put(&mut payload, 0, &timers.to_bytes());
     put_link_layer(&mut payload, 8, LinkLayerAddressOption::Source);
     put_mtu(&mut payload, 16, 1480);
     put_prefix(&mut payload, 24);
@@ -159,7 +158,7 @@ fn neighbor_solicitation() {
         target_address: HOST,
     };
     let mut payload = [0u8; 24];
-    put_at(&mut payload, 0, &fixed.to_bytes());
+    put(&mut payload, 0, &fixed.to_bytes());
     put_link_layer(&mut payload, 16, LinkLayerAddressOption::Source);
     send(
         Icmpv6Type::NeighborSolicitation,
@@ -179,7 +178,7 @@ fn neighbor_advertisement() {
         target_address: HOST,
     };
     let mut payload = [0u8; 24];
-    put_at(&mut payload, 0, &fixed.to_bytes());
+    put(&mut payload, 0, &fixed.to_bytes());
     put_link_layer(&mut payload, 16, LinkLayerAddressOption::Target);
     send(
         Icmpv6Type::NeighborAdvertisement(header),
@@ -195,7 +194,7 @@ fn redirect() {
         destination_address: ELSEWHERE,
     };
     let mut payload = [0u8; 40];
-    put_at(&mut payload, 0, &fixed.to_bytes());
+    put(&mut payload, 0, &fixed.to_bytes());
     put_link_layer(&mut payload, 32, LinkLayerAddressOption::Target);
     send(Icmpv6Type::Redirect, &ROUTER, &HOST, &payload);
 }

@@ -9,7 +9,8 @@ use lib.ListN.{length, getD, take, drop, drop-of-length-le}
 use lib.Seq.{take-append-seam, drop-cons}
 use Rattle.paper.specs.Paper.{Paper, gives}
 use Rattle.output.specs.Output.{roomFor, leaves}
-use Rattle.output.proofs.Laws.{room}
+use Rattle.output.proofs.Fitting.{fits as there-is-room}
+use Rattle.output.proofs.Wrote.{over-start}
 use Rattle.wire.proofs.Laws.{join32}
 use Rattle.ndp_walk.specs.Judge.{Fits}
 use Rattle.ndp_walk.specs.Walk.{Clean, Walk, item}
@@ -30,8 +31,8 @@ use Rattle.prefix_information.specs.Prefix.{bytesOf}
 use Rattle.option_writer.specs.Options.{mtuBytes, linkLayerBytes}
 
 -- what putting some bytes promises, said of the option that they are
-pub put-as : {p : Paper} {left : List ℕ} (out b o : List ℕ) (n : ℕ) → b ≡ o → length b ≡ n → p ≡ roomFor (length b) out → left ≡ leaves (roomFor (length b) out) b out
-    → (p ≡ roomFor n out) × (left ≡ leaves (roomFor n out) o out)
+pub put-as : {p : Paper} {left : List ℕ} (out b o : List ℕ) (n : ℕ) → b ≡ o → length b ≡ n → p ≡ roomFor (length b) out 0 → left ≡ leaves (roomFor (length b) out 0) out 0 b
+    → (p ≡ roomFor n out 0) × (left ≡ leaves (roomFor n out 0) out 0 o)
 put-as out b o n e l p q = rw (← l, ← e) (p, q)
 
 -- a list of six is its elements
@@ -60,8 +61,8 @@ module _ {kind : ℕ} {o : List ℕ} (is : Option kind o) where
       ∙ ap (λ (k : ℕ). alone k o) same
 
   -- the walk over what was written at the start of a buffer hands out exactly that option, and ends
-  pub read-back : (out : List ℕ) → length o ≤ length out → walk (take (length o) (leaves (roomFor (length o) out) o out)) ≡ alone kind o
-  read-back out enough = rw (room (length o) out enough, take-append-seam) walked
+  pub read-back : (out : List ℕ) → length o ≤ length out → walk (take (length o) (leaves (roomFor (length o) out 0) out 0 o)) ≡ alone kind o
+  read-back out enough = rw (there-is-room (length o) out 0 (omega arith), over-start out o, take-append-seam) walked
 
 -- the encoders' bytes
 pub prefix-option : (i : PrefixInformation) → length (i .prefix) ≡ 16 → Option 3 (bytesOf i)

@@ -9,21 +9,21 @@ use prefix_information::PrefixInformation;
 
 // Section 4.6.2.
 pub fn write_prefix_information(information: PrefixInformation, out: &mut [u8]) -> Written
-    ensures answers { λ r. ⌜ writtenTold r ≡ roomFor 32 (now (out .entry)) ⌝ }
-    ensures lent { λ r. ⌜ now (out .exit) ≡ leaves (roomFor 32 (now (out .entry))) (bytesOf information) (now (out .entry)) ⌝ }
+    ensures answers { λ r. ⌜ writtenTold r ≡ roomFor 32 (now (out .entry)) 0 ⌝ }
+    ensures lent { λ r. ⌜ now (out .exit) ≡ leaves (roomFor 32 (now (out .entry)) 0) (now (out .entry)) 0 (bytesOf information) ⌝ }
 {
     let bytes = information.to_bytes();
-    output::put(out, &bytes)
+    output::put(out, 0, &bytes)
 }
 
 // Section 4.6.4; the reserved bytes are 0.
 pub fn write_mtu(mtu: u32, out: &mut [u8]) -> Written
-    ensures answers { λ r. ⌜ writtenTold r ≡ roomFor 8 (now (out .entry)) ⌝ }
-    ensures lent { λ r. ⌜ now (out .exit) ≡ leaves (roomFor 8 (now (out .entry))) (mtuBytes mtu) (now (out .entry)) ⌝ }
+    ensures answers { λ r. ⌜ writtenTold r ≡ roomFor 8 (now (out .entry)) 0 ⌝ }
+    ensures lent { λ r. ⌜ now (out .exit) ≡ leaves (roomFor 8 (now (out .entry)) 0) (now (out .entry)) 0 (mtuBytes mtu) ⌝ }
 {
     let m = wire::u32_to_be(mtu);
     let bytes = [5, 1, 0, 0, m[0], m[1], m[2], m[3]];
-    output::put(out, &bytes)
+    output::put(out, 0, &bytes)
 }
 
 // Section 4.6.1: the source's or the target's address, of six bytes as on an Ethernet (RFC 2464, section 6).
@@ -32,8 +32,8 @@ pub fn write_link_layer_address(
     address: [u8; 6],
     out: &mut [u8],
 ) -> Written
-    ensures answers { λ r. ⌜ writtenTold r ≡ roomFor 8 (now (out .entry)) ⌝ }
-    ensures lent { λ r. ⌜ now (out .exit) ≡ leaves (roomFor 8 (now (out .entry))) (linkLayerBytes whose address) (now (out .entry)) ⌝ }
+    ensures answers { λ r. ⌜ writtenTold r ≡ roomFor 8 (now (out .entry)) 0 ⌝ }
+    ensures lent { λ r. ⌜ now (out .exit) ≡ leaves (roomFor 8 (now (out .entry)) 0) (now (out .entry)) 0 (linkLayerBytes whose address) ⌝ }
 {
     let id = whose.option_type();
     let bytes = [
@@ -46,5 +46,5 @@ pub fn write_link_layer_address(
         address[4],
         address[5],
     ];
-    output::put(out, &bytes)
+    output::put(out, 0, &bytes)
 }

@@ -1,27 +1,33 @@
 -- What is answered of a buffer that is lent for output, and what it then holds (document 01, refusal 9; demand 1).
 -- Assumes nothing.
-use Prim.Native.Nat.{ℕ, _+_}
+use Prim.Native.Nat.{ℕ, _+_, _-_}
 use mathlib.Core.Bool.{cond}
+use mathlib.Core.Path.{_≡_}
 use mathlib.Core.List.{List, [], _∷_, _++_}
 use lib.Dec.{ltb, eqb}
 use lib.ListN.{length, take, drop}
 use Rattle.paper.specs.Paper.{Paper, refuses, gives}
 use Rattle.refusal.specs.Paper.{refusal}
 use Rattle.output.specs.declared.Written.{Written}
-use Rattle.output.specs.declared.Written.the-variants.{Length, Refused}
+use Rattle.output.specs.declared.Written.the-variants.{To, Refused}
 
 abbrev pub writtenTold : Written → Paper
-writtenTold (Length n) = gives (n ∷ [])
-writtenTold (Refused r) = refusal r
+writtenTold (To n) = gives (n ∷ [])
+writtenTold (Refused why) = refusal why
 
--- refusal 9 where the buffer has no room for n bytes, else n
-unfoldable pub roomFor : ℕ → List ℕ → Paper
-roomFor n out = cond (ltb (length out) n) (refuses 9 (n ∷ [])) (gives (n ∷ []))
+-- refusal 9 where fewer than n bytes are left from the place on, else the place behind n bytes
+unfoldable pub roomFor : ℕ → List ℕ → ℕ → Paper
+roomFor n out at = cond (ltb (length out - at) n) (refuses 9 (n ∷ [])) (gives ((at + n) ∷ []))
 
--- the buffer afterwards: as it was where the answer refuses, else the bytes, and behind them what stood there
-abbrev pub leaves : Paper → List ℕ → List ℕ → List ℕ
-leaves answer bytes out = cond (eqb (answer .number) 0) (bytes ++ drop (length bytes) out) out
+-- bytes over those from a place on: what stands before them and behind them stays
+unfoldable pub over : List ℕ → ℕ → List ℕ → List ℕ
+over out at bytes = take at out ++ bytes ++ drop (at + length bytes) out
 
--- bytes over those from a place on, where they fit in
-unfoldable pub putAt : List ℕ → ℕ → List ℕ → List ℕ
-putAt out at bytes = cond (ltb (length out) (at + length bytes)) out (take at out ++ bytes ++ drop (at + length bytes) out)
+-- the buffer afterwards: as it was where the answer refuses, else with the bytes over it
+abbrev pub leaves : Paper → List ℕ → ℕ → List ℕ → List ℕ
+leaves answer out at bytes = cond (eqb (answer .number) 0) (over out at bytes) out
+
+-- what a call whose bytes fit leaves, and the place behind them that it answers
+pub record Wrote (out : List ℕ) (at : ℕ) (bytes left : List ℕ) (to : ℕ) : Type 0 where
+  pub ends : to ≡ at + length bytes
+  pub holds : left ≡ over out at bytes

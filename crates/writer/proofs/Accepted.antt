@@ -24,7 +24,7 @@ use Rattle.ndp_options.specs.Walk.{walk}
 use Rattle.ndp_options.proofs.Rule.{numbered}
 use Rattle.ndp_option_list.specs.Whole.{countOf, endBy}
 use Rattle.output.specs.Output.{roomFor}
-use Rattle.output.proofs.Laws.{no-room}
+use Rattle.output.proofs.Fitting.{narrow}
 use Rattle.writer.specs.Write.{_orElse_, optionsOf, sendableOf, writeOf}
 
 pub record Accepted (t : Icmpv6Type) (s out : List ℕ) : Type 0 where
@@ -40,19 +40,19 @@ never h q = absurd (let z = ap (λ (x : Paper). x .number) q in omega arith)
 
 module _ (t : Icmpv6Type) (s out v : List ℕ) where
   -- the last test
-  last : roomFor (8 + length s) out ≡ gives v → 8 + length s ≤ length out
+  last : roomFor (8 + length s) out 0 ≡ gives v → 8 + length s ≤ length out
   last q = elim (decLe (8 + length s) (length out)) [
     | yes h ↦ h
-    | no h ↦ never (lit< tt) (sym (no-room (8 + length s) out (omega arith)) ∙ q)
+    | no h ↦ never (lit< tt) (sym (narrow (8 + length s) out 0 (omega arith)) ∙ q)
   ]
 
   -- the walk
-  walked : (e : Ending) → walk (optionsOf t s) .ending ≡ e → ((endBy e (gives (length (walk (optionsOf t s) .items) ∷ [])) .paper orElse gives []) orElse roomFor (8 + length s) out) ≡ gives v → (walk (optionsOf t s) .ending ≡ Clean) × (8 + length s ≤ length out)
+  walked : (e : Ending) → walk (optionsOf t s) .ending ≡ e → ((endBy e (gives (length (walk (optionsOf t s) .items) ∷ [])) .paper orElse gives []) orElse roomFor (8 + length s) out 0) ≡ gives v → (walk (optionsOf t s) .ending ≡ Clean) × (8 + length s ≤ length out)
   walked Clean e q = (e, last q)
   walked (RefusedAt at why) e q =
       let n = refusal-numbered rule numbered (drop at (optionsOf t s)) (refused-there rule (optionsOf t s) e .0) in
       let some = ne-eqb (why .number) 0 (λ z. omega arith) in
-      let first : ((why orElse gives []) orElse roomFor (8 + length s) out) ≡ why = simp some in
+      let first : ((why orElse gives []) orElse roomFor (8 + length s) out 0) ≡ why = simp some in
       never {p = why} n (sym first ∙ q)
 
   pub accepted : writeOf t s out ≡ gives v → Accepted t s out
@@ -60,7 +60,7 @@ module _ (t : Icmpv6Type) (s out v : List ℕ) where
   accepted = by (misnamed t) (ltb 65527 (length s)) refl refl
     where
       by : (a b : Bool) → misnamed t ≡ a → ltb 65527 (length s) ≡ b →
-          (cond a (refuses 10 (typeNumber t ∷ codeNumber t ∷ [])) (cond b (refuses 3 (65527 ∷ length s ∷ [])) (byValue t s orElse (countOf (optionsOf t s) .paper orElse gives []))) orElse roomFor (8 + length s) out) ≡ gives v →
+          (cond a (refuses 10 (typeNumber t ∷ codeNumber t ∷ [])) (cond b (refuses 3 (65527 ∷ length s ∷ [])) (byValue t s orElse (countOf (optionsOf t s) .paper orElse gives []))) orElse roomFor (8 + length s) out 0) ≡ gives v →
           Accepted t s out
       by true b e f q = never {p = refuses 10 (typeNumber t ∷ codeNumber t ∷ [])} (lit< tt) q
       by false true e f q = never {p = refuses 3 (65527 ∷ length s ∷ [])} (lit< tt) q

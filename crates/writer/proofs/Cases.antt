@@ -16,7 +16,7 @@ use Rattle.icmpv6_payload_slice.specs.Dispatch.{payloadOf}
 use Rattle.ndp_walk.specs.Judge.{judge}
 use Rattle.ndp_walk.specs.Walk.{walkOn, walkFrom}
 use Rattle.ndp_options.specs.Rule.{rule}
-use Rattle.output.specs.Output.{roomFor, leaves}
+use Rattle.output.specs.Output.{roomFor, over, leaves}
 use Rattle.writer.specs.Write.{sendableOf, packetOf, writeOf}
 
 pub record Case : Type 0 where
@@ -30,7 +30,7 @@ zeros n = replicate n 0
 abbrev written : Icmpv6Type → List ℕ → List ℕ → List ℕ
 written t payload out =
     let answer = writeOf t payload out in
-    answer .number ∷ (answer .values ++ leaves answer (packetOf router everyone t payload) out)
+    answer .number ∷ (answer .values ++ leaves answer out 0 (packetOf router everyone t payload))
 
 abbrev case : List ℕ → List ℕ → Case
 case got wanted = record { got = got; wanted = wanted }
@@ -57,5 +57,5 @@ cases =
     ∷ []
 
 pub right : map (λ (k : Case). k .got) cases ≡ map (λ (k : Case). k .wanted) cases
-unfolding sendableOf payloadOf roomFor known fixedLen sumOf checksumOf _⊕_ judge rule walkOn walkFrom
+unfolding sendableOf payloadOf roomFor over known fixedLen sumOf checksumOf _⊕_ judge rule walkOn walkFrom
 right = refl

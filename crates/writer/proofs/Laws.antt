@@ -3,6 +3,7 @@
 use Prim.Native.Nat.{ℕ, _+_, _<_, _≤_}
 use native.Mathlib.Omega.{arith}
 use native.Mathlib.Decide.{decLe}
+use native.Mathlib.Nat.{zero-add}
 use mathlib.Core.Bool.{Bool, true, false, cond}
 use mathlib.Core.Path.{_≡_, refl, sym, ap, _∙_}
 use mathlib.Core.List.{List, [], _∷_}
@@ -27,7 +28,7 @@ use Rattle.ndp_walk.specs.Step.{Told, told}
 use Rattle.ndp_option_list.specs.Whole.{countOf}
 use Rattle.writer.specs.Write.{_orElse_, optionsOf, sendableOf, writeOf}
 use Rattle.output.specs.Output.{leaves}
-use Rattle.output.proofs.Laws.{no-room, room}
+use Rattle.output.proofs.Fitting.{fits as there-is-room, narrow as no-room}
 
 -- an Unknown is told by its kind
 pub misnamed-is : (t : Icmpv6Type) → misnamed t ≡ cond (eqb (kindNumber t) 0) (known (typeNumber t) (codeNumber t)) false
@@ -119,10 +120,10 @@ module _ (t : Icmpv6Type) (s out : List ℕ) where
 
   module _ (passed : gives [] ≡ sendableOf t s) where
     pub narrow : length out < 8 + length s → writeOf t s out ≡ refuses 9 ((8 + length s) ∷ [])
-    narrow h = rw (← passed) (no-room (8 + length s) out h)
+    narrow h = rw (← passed) (no-room (8 + length s) out 0 (omega arith))
 
     pub fitting : 8 + length s ≤ length out → writeOf t s out ≡ gives ((8 + length s) ∷ [])
-    fitting h = rw (← passed) (room (8 + length s) out h)
+    fitting h = rw (← passed) (there-is-room (8 + length s) out 0 (omega arith) ∙ simp zero-add)
 
-pub refused-leaves : (why : Refusal) (bytes out : List ℕ) → out ≡ leaves (refusal why) bytes out
-refused-leaves why bytes out = rw (refusal-numbered why)
+pub refused-leaves : (why : Refusal) (out bytes : List ℕ) → out ≡ leaves (refusal why) out 0 bytes
+refused-leaves why out bytes = rw (refusal-numbered why)

@@ -22,6 +22,7 @@ use Rattle.checksum.proofs.Sums.{below-append, below-set}
 use Rattle.checksum.proofs.Validity.{sent-validates}
 use Rattle.icmpv6_checksum.specs.Header.{headOf}
 use Rattle.output.specs.Output.{leaves}
+use Rattle.output.proofs.Wrote.{over-start}
 use Rattle.writer.specs.Write.{sealedHead, packetOf, writeOf}
 use Rattle.writer.proofs.Bytes.{head-bytes, byte-at, eight}
 
@@ -72,8 +73,8 @@ module _ (source destination : List ℕ) (t : Icmpv6Type) (payload : List ℕ) w
 
 -- the output: at its start the packet, and behind it what stood there; a refusal leaves it as it was
 module _ (bytes out : List ℕ) where
-  pub start-is : take (length bytes) (leaves (gives (length bytes ∷ [])) bytes out) ≡ bytes
-  start-is = take-append-seam bytes (drop (length bytes) out)
+  pub start-is : take (length bytes) (leaves (gives (length bytes ∷ [])) out 0 bytes) ≡ bytes
+  start-is = rw (over-start out bytes) (take-append-seam bytes (drop (length bytes) out))
 
-  pub rest-is : drop (length bytes) (leaves (gives (length bytes ∷ [])) bytes out) ≡ drop (length bytes) out
-  rest-is = drop-append-seam bytes (drop (length bytes) out)
+  pub rest-is : drop (length bytes) (leaves (gives (length bytes ∷ [])) out 0 bytes) ≡ drop (length bytes) out
+  rest-is = rw (over-start out bytes) (drop-append-seam bytes (drop (length bytes) out))

@@ -40,7 +40,7 @@ sendableOf t payload =
 
 -- and 9, or the length
 abbrev pub writeOf : Icmpv6Type → List ℕ → List ℕ → Paper
-writeOf t payload out = sendableOf t payload orElse roomFor (8 + length payload) out
+writeOf t payload out = sendableOf t payload orElse roomFor (8 + length payload) out 0
 
 -- the head with the checksum that is computed for it with its field 0, and the payload
 abbrev pub sealedHead : List ℕ → List ℕ → Icmpv6Type → List ℕ → List ℕ

@@ -87,7 +87,7 @@ pub fn write_packet(
     out: &mut [u8],
 ) -> Written
     ensures answers { λ r. ⌜ writtenTold r ≡ writeOf «icmp_type» (now (payload .entry)) (now (out .entry)) ⌝ }
-    ensures lent { λ r. ⌜ now (out .exit) ≡ leaves (writeOf «icmp_type» (now (payload .entry)) (now (out .entry))) (packetOf (now (source .entry)) (now (destination .entry)) «icmp_type» (now (payload .entry))) (now (out .entry)) ⌝ }
+    ensures lent { λ r. ⌜ now (out .exit) ≡ leaves (writeOf «icmp_type» (now (payload .entry)) (now (out .entry))) (now (out .entry)) 0 (packetOf (now (source .entry)) (now (destination .entry)) «icmp_type» (now (payload .entry))) ⌝ }
 {
     match check(icmp_type, payload) {
         Sendable::Refused(why) => Written::Refused(why),
@@ -97,9 +97,8 @@ pub fn write_packet(
                 return Written::Refused(Refusal::ShortOutput { needed });
             }
             let head = sealed_head(icmp_type, source, destination, payload);
-            output::put_at(out, 0, &head);
-            output::put_at(out, 8, payload);
-            Written::Length(needed)
+            output::put(out, 0, &head);
+            output::put(out, 8, payload)
         }
     }
 }

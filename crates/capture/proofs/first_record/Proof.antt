@@ -62,14 +62,17 @@ returns-4 c =
     let a = g .before .before .before .before .before .before .before .args in
     ap (placed (a .at)) (sym (head-cut (now (a .left)) (a .place) (good g .0) (good g .1) (c .if4 .taken)))
 
-shared-slice-read-word : tie.Need-shared-slice-read-word
-shared-slice-read-word c = search needs
+shared-slice-read-u16-from-be : tie.Need-shared-slice-read-u16-from-be
+shared-slice-read-u16-from-be c = search needs
 
-shared-slice-read-word-2 : tie.Need-shared-slice-read-word-2
-shared-slice-read-word-2 c = search needs
+shared-slice-read-u16-from-be-2 : tie.Need-shared-slice-read-u16-from-be-2
+shared-slice-read-u16-from-be-2 c = search needs
 
-word-requires : tie.Need-word-requires
-word-requires c κs = search needs
+u16-from-be-requires : tie.Need-u16-from-be-requires
+u16-from-be-requires c κs = search needs
+
+cast-len : tie.Need-cast-len
+cast-len c = search needs
 
 returns-5 : tie.Need-returns-5
 returns-5 c =
@@ -77,7 +80,7 @@ returns-5 c =
     let h = w .before .before .before in
     let g = h .before in
     let a = g .before .before .before .before .before .before .before .args in
-    rw (w .word .ensures) (ap (placed (a .at)) (sym (too-long (now (a .left)) (a .place) (good g .0) (good g .1) (h .if4 .left) (rw (w .word .ensures) at (c .if5 .taken)))))
+    rw (w .u16-from-be .ensures) (ap (placed (a .at)) (sym (too-long (now (a .left)) (a .place) (good g .0) (good g .1) (h .if4 .left) (rw (w .u16-from-be .ensures) at (c .if5 .taken)))))
 
 sub-if6 : tie.Need-sub-if6
 sub-if6 c = search needs
@@ -89,25 +92,25 @@ returns-6 c =
     let h = w .before .before .before in
     let g = h .before in
     let a = g .before .before .before .before .before .before .before .args in
-    ap (placed (a .at)) (sym (body-cut (now (a .left)) (a .place) (good g .0) (good g .1) (h .if4 .left) (rw (w .word .ensures) at (i .if5 .left)) (rw (w .word .ensures) at (c .if6 .taken))))
+    ap (placed (a .at)) (sym (body-cut (now (a .left)) (a .place) (good g .0) (good g .1) (h .if4 .left) (rw (w .u16-from-be .ensures) at (i .if5 .left)) (rw (w .u16-from-be .ensures) at (c .if6 .taken))))
 
-shared-slice-read-t19 : tie.Need-shared-slice-read-t19
-shared-slice-read-t19 c = search needs
+shared-slice-read-t20 : tie.Need-shared-slice-read-t20
+shared-slice-read-t20 c = search needs
 
 add-t6 : tie.Need-add-t6
 add-t6 c = search needs
 
-add-t21 : tie.Need-add-t21
-add-t21 c = search needs
-
-add-t24 : tie.Need-add-t24
-add-t24 c = search needs
+add-t22 : tie.Need-add-t22
+add-t22 c = search needs
 
 add-t25 : tie.Need-add-t25
 add-t25 c = search needs
 
 add-t26 : tie.Need-add-t26
 add-t26 c = search needs
+
+add-t27 : tie.Need-add-t27
+add-t27 c = search needs
 
 returns-7 : tie.Need-returns-7
 returns-7 c =
@@ -117,7 +120,7 @@ returns-7 c =
     let h = w .before .before .before in
     let g = h .before in
     let a = g .before .before .before .before .before .before .before .args in
-    rw (w .word .ensures) (ap (placed (a .at)) (sym (whole (now (a .left)) (a .place) (good g .0) (good g .1) (h .if4 .left) (rw (w .word .ensures) at (i .if5 .left)) (rw (w .word .ensures) at (k .if6 .left)))))
+    rw (w .u16-from-be .ensures) (ap (placed (a .at)) (sym (whole (now (a .left)) (a .place) (good g .0) (good g .1) (h .if4 .left) (rw (w .u16-from-be .ensures) at (i .if5 .left)) (rw (w .u16-from-be .ensures) at (k .if6 .left)))))
 
 pub first-record-spec : {M : Type 1} → statement M
 first-record-spec =
@@ -130,16 +133,17 @@ first-record-spec =
     same-requires
     returns-3
     returns-4
-    shared-slice-read-word
-    shared-slice-read-word-2
-    word-requires
+    shared-slice-read-u16-from-be
+    shared-slice-read-u16-from-be-2
+    u16-from-be-requires
+    cast-len
     returns-5
     sub-if6
     returns-6
-    shared-slice-read-t19
+    shared-slice-read-t20
     add-t6
-    add-t21
-    add-t24
+    add-t22
     add-t25
     add-t26
+    add-t27
     returns-7)

@@ -5,7 +5,7 @@ use Prim.Native.Nat.{_+_, _-_, _≤_}
 use native.Mathlib.Omega.{arith}
 use mathlib.Core.Path.{_≡_, refl, _∙_}
 use lib.ListN.{length, take, drop}
-use Rattle.lent.proofs.Fitting.{told, not-full}
+use Rattle.output.proofs.Fitting.{told, not-full}
 use Rattle.listing.specs.Packet.{recordText}
 use Rattle.capture.proofs.Writing.{held}
 use Rattle.capture.specs.Record.{hopLimit, source, destination, packet}
@@ -82,7 +82,7 @@ returns c =
     let body = take (a .args .found .next - a .args .found .packet) (drop (a .args .found .packet) (now (a .args .bytes))) in
     let few : length body ≤ 2048 = rw (k .body) (k .few) in
     let all = p .put-record .ensures .0 .1 few in
-    let w = told (now (a .args .out)) (a .args .s .put) (recordText (a .args .s .count + 1) (a .args .place + a .args .s .at) (a .args .found .«hop_limit») (d .address .result) (e .address2 .result) body) _ (p .put-record .result) (p .put-record .ensures .0 .0 ∙ held body few _) (rw (held body few) at (p .put-record .ensures .1)) (omega (arith, a .pre .0, all)) (c .before .put .given .0 .0) (c .before .put .given .1) in
+    let w = told (now (a .args .out)) (a .args .s .put) (recordText (a .args .s .count + 1) (a .args .place + a .args .s .at) (a .args .found .«hop_limit») (d .address .result) (e .address2 .result) body) (rw (held body few) at (p .put-record .ensures .1)) (omega (arith, a .pre .0, all)) (p .put-record .ensures .0 .0 ∙ held body few _) (c .before .put .given .0 .0) (c .before .put .given .1) in
     record { at = a .pre .1 .next; count = refl; wrote = rw (same e) at w; fits = omega (arith, w .ends, a .pre .0, all); going = refl; hungry = refl; done = refl }
 
 same-length-2 : tie.Need-same-length-2
@@ -97,7 +97,7 @@ returns-2 c =
     let k = parts (now (a .args .bytes)) (a .args .s .at) (a .args .place + a .args .s .at) (a .args .found) (a .pre .1) in
     let body = take (a .args .found .next - a .args .found .packet) (drop (a .args .found .packet) (now (a .args .bytes))) in
     let few : length body ≤ 2048 = rw (k .body) (k .few) in
-    absurd (not-full (now (a .args .out)) (a .args .s .put) (recordText (a .args .s .count + 1) (a .args .place + a .args .s .at) (a .args .found .«hop_limit») (d .address .result) (e .address2 .result) body) _ (p .put-record .result) (p .put-record .ensures .0 .0 ∙ held body few _) (rw (held body few) at (p .put-record .ensures .1)) (omega (arith, a .pre .0, p .put-record .ensures .0 .1 few)) _ (c .enum-told .given .1))
+    absurd (not-full (now (a .args .out)) (a .args .s .put) (recordText (a .args .s .count + 1) (a .args .place + a .args .s .at) (a .args .found .«hop_limit») (d .address .result) (e .address2 .result) body) (rw (held body few) at (p .put-record .ensures .1)) (omega (arith, a .pre .0, p .put-record .ensures .0 .1 few)) (p .put-record .ensures .0 .0 ∙ held body few _) _ (c .enum-told .given .1))
 
 pub list-record-spec : {M : Type 1} → statement M
 list-record-spec =

@@ -2,7 +2,7 @@
 -- Assumes nothing.
 use denote.Ref.{now}
 use native.Mathlib.Omega.{arith}
-use Rattle.lent.proofs.Fitting.{told}
+use Rattle.output.proofs.Fitting.{told}
 use Rattle.lines.specs.declared.Line.the-variants.{Title}
 use Rattle.lines.specs.Line.{text}
 use borrow.Author.Needs.{needs}
@@ -20,7 +20,7 @@ flush-requires c κs =
     let k = c .before .before in
     let p = k .before .before .before .before in
     let a = p .before .before .before in
-    let w = told (now (a .args .out)) 0 (text Title) _ (p .put-line .result) (p .put-line .ensures .0 .0) (p .put-line .ensures .1) (omega (arith, a .pre, p .put-line .ensures .0 .1)) (k .n .given .0 .0) (k .n .given .1) in
+    let w = told (now (a .args .out)) 0 (text Title) (p .put-line .ensures .1) (omega (arith, a .pre, p .put-line .ensures .0 .1)) (p .put-line .ensures .0 .0) (k .n .given .0 .0) (k .n .given .1) in
     omega (arith, w .ends, a .pre, p .put-line .ensures .0 .1, p .put-line .kept .0)
 
 enum-told : tie.Need-enum-told

@@ -1,7 +1,7 @@
 -- `lines::put_byte` meets its contract: a store is one byte put.
 -- Assumes nothing.
 use denote.Ref.{now}
-use Rattle.lent.proofs.Wrote.{one}
+use Rattle.output.proofs.Wrote.{one}
 use borrow.Author.Needs.{needs}
 use Rattle.lines.proofs.put_byte.Statement.{statement}
 use Rattle.lines.proofs.put_byte.Tie as tie

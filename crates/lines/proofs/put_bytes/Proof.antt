@@ -1,36 +1,40 @@
--- `lines::put_bytes` meets its contract: the copy fills the start of the part from the place on.
+-- `put_bytes` meets its contract: bytes that fit are not refused.
 -- Assumes nothing.
 use denote.Ref.{now}
-use Rattle.lent.proofs.Wrote.{copied}
+use native.Mathlib.Omega.{arith}
+use Rattle.output.proofs.Fitting.{told, not-full}
 use borrow.Author.Needs.{needs}
 use Rattle.lines.proofs.put_bytes.Statement.{statement}
 use Rattle.lines.proofs.put_bytes.Tie as tie
 
-sub-copy : tie.Need-sub-copy
-sub-copy c = search needs
+put-requires : tie.Need-put-requires
+put-requires c κs = search needs
 
-part-copy-start : tie.Need-part-copy-start
-part-copy-start c = search needs
+enum-known-next : tie.Need-enum-known-next
+enum-known-next c = search needs
 
-part-copy-end : tie.Need-part-copy-end
-part-copy-end c = search needs
-
-copy-requires : tie.Need-copy-requires
-copy-requires c κs = search needs
-
-add-result : tie.Need-add-result
-add-result c = search needs
+enum-told : tie.Need-enum-told
+enum-told c = search needs
 
 same-length : tie.Need-same-length
 same-length c = search needs
 
 returns : tie.Need-returns
 returns c =
-    let d = c .before .before in
-    let a = d .before .before .before .before in
-    rw (d .copy .ensures .0) (copied (now (a .args .out)) (a .args .at) (now (a .args .bytes)) _ (a .pre) (d .copy .ensures .1))
+    let p = c .before .before .before .before .before in
+    let a = p .before .before .before .before in
+    told (now (a .args .out)) (a .args .at) (now (a .args .bytes)) (p .put .ensures .1) (omega (arith, a .pre)) (p .put .ensures .0) _ (c .before .next .given .1)
+
+same-length-2 : tie.Need-same-length-2
+same-length-2 c = search needs
+
+returns-2 : tie.Need-returns-2
+returns-2 c =
+    let p = c .before .before .before .before in
+    let a = p .before .before .before .before in
+    absurd (not-full (now (a .args .out)) (a .args .at) (now (a .args .bytes)) (p .put .ensures .1) (omega (arith, a .pre)) (p .put .ensures .0) _ (c .enum-told .given .1))
 
 pub put-bytes-spec : {M : Type 1} → statement M
 put-bytes-spec =
     tie.close
-    (tie.spec sub-copy part-copy-start part-copy-end copy-requires add-result same-length returns)
+    (tie.spec put-requires enum-known-next enum-told same-length returns same-length-2 returns-2)

@@ -1,6 +1,6 @@
 -- `lines::put_field` meets its contract: a number has at most twenty digits.
 -- Assumes nothing.
-use Rattle.lent.proofs.Wrote.{_then_}
+use Rattle.output.proofs.Wrote.{_then_}
 use Rattle.lines.proofs.Digits.{decimal-one, twenty}
 use Rattle.lines.specs.Text.{field}
 use native.Mathlib.Omega.{arith}

@@ -1,4 +1,4 @@
--- `lines::put_line` meets its contract: a line that may not fit is put into bytes of its own first, and copied.
+-- `put_line` meets its contract: a line that may not fit is put into bytes of its own first, and copied.
 -- Assumes nothing.
 use Prim.Native.Nat.{_≤_}
 use mathlib.Core.Path.{_≡_, refl, ap}
@@ -6,30 +6,21 @@ use native.Mathlib.Omega.{arith}
 use lib.ListN.{length, take}
 use denote.Ref.{now}
 use Rattle.lines.specs.Line.{text}
-use Rattle.lent.proofs.Wrote.{start}
-use Rattle.lent.proofs.Fitting.{fits}
+use Rattle.output.proofs.Wrote.{start}
+use Rattle.output.proofs.Fitting.{fits}
 use borrow.Author.Needs.{needs}
 use Rattle.lines.proofs.put_line.Statement.{statement}
 use Rattle.lines.proofs.put_line.Tie as tie
-use Rattle.lines.proofs.put_line.Reads as reads
-use Rattle.lines.proofs.put_line.Lts as lts
-use Rattle.lent.proofs.put_bytes.Reads as put-bytes-reads
-use Rattle.lent.proofs.room.Reads as room-reads
-use Rattle.lines.proofs.put_text.Reads as put-text-reads
 
--- src/lib.rt:76:19
 room-requires : tie.Need-room-requires
 room-requires c κs = search needs
 
--- src/lib.rt:77:24
 put-text-requires : tie.Need-put-text-requires
 put-text-requires c κs = search needs
 
--- src/lib.rt:77:9
 same-length : tie.Need-same-length
 same-length c = search needs
 
--- src/lib.rt:77:9
 returns : tie.Need-returns
 returns c =
     let l = c .before .before in
@@ -37,21 +28,17 @@ returns c =
     let a = i .before .before .before .before .args in
     let w = l .put-text .ensures .0 in
     let few : length (text (a .line)) ≤ 128 = omega (arith, w .ends, l .put-text .ensures .1) in
-    simp (fits (now (a .out)) (a .at) (text (a .line)) (omega (arith, i .if1 .taken, i .before .room .ensures)), w .ends) ((refl, few), w .holds)
+    simp (fits (length (text (a .line))) (now (a .out)) (a .at) (omega (arith, i .if1 .taken, i .before .room .ensures)), w .ends) ((refl, few), w .holds)
 
--- src/lib.rt:80:22
 slice-aggregate-put-text : tie.Need-slice-aggregate-put-text
 slice-aggregate-put-text c = search needs
 
--- src/lib.rt:80:9
 put-text-requires-2 : tie.Need-put-text-requires-2
 put-text-requires-2 c κs = search needs
 
--- src/lib.rt:81:30
 array-share-prefix-own : tie.Need-array-share-prefix-own
 array-share-prefix-own c = search needs
 
--- src/lib.rt:81:30
 -- what the line's own bytes are
 abbrev Own : tie.After-put-text2 → Type 0
 Own c = take (c .put-text2 .result) (c .put-text2 .last .0) ≡ text (c .before .before .before .before .before .before .args .line)
@@ -59,27 +46,24 @@ Own c = take (c .put-text2 .result) (c .put-text2 .last .0) ≡ text (c .before 
 own : (c : tie.After-put-text2) → Own c
 own c = start _ _ _ _ (c .put-text2 .ensures .0)
 
-slice-aggregate-put-bytes : tie.Need-slice-aggregate-put-bytes
-slice-aggregate-put-bytes c =
+slice-aggregate-put : tie.Need-slice-aggregate-put
+slice-aggregate-put c =
     let l = c .before .before .before in
     omega (arith, ap length (own l), l .put-text2 .ensures .0 .ends)
 
--- src/lib.rt:81:5
-put-bytes-requires : tie.Need-put-bytes-requires
-put-bytes-requires c κs = search needs
+put-requires : tie.Need-put-requires
+put-requires c κs = search needs
 
--- src/lib.rt:72:1
 same-length-2 : tie.Need-same-length-2
 same-length-2 c = search needs
 
--- src/lib.rt:72:1
 returns-2 : tie.Need-returns-2
 returns-2 c =
     let p = c .before .before in
     let l = p .before .before .before .before in
     let a = l .before .before .before .before .before .before .args in
     let few : length (text (a .line)) ≤ 128 = omega (arith, l .put-text2 .ensures .0 .ends, l .put-text2 .ensures .1) in
-    simp (p .put-bytes .ensures .0, own l) ((refl, few), rw (own l) at (p .put-bytes .ensures .1))
+    simp (p .put .ensures .0, own l) ((refl, few), rw (own l) at (p .put .ensures .1))
 
 pub put-line-spec : {M : Type 1} → statement M
 put-line-spec =
@@ -92,7 +76,7 @@ put-line-spec =
     slice-aggregate-put-text
     put-text-requires-2
     array-share-prefix-own
-    slice-aggregate-put-bytes
-    put-bytes-requires
+    slice-aggregate-put
+    put-requires
     same-length-2
     returns-2)

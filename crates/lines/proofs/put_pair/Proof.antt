@@ -1,6 +1,6 @@
 -- `lines::put_pair` meets its contract: one digit, and then the other.
 -- Assumes nothing.
-use Rattle.lent.proofs.Wrote.{_then_}
+use Rattle.output.proofs.Wrote.{_then_}
 use borrow.Author.Needs.{needs}
 use Rattle.lines.proofs.put_pair.Statement.{statement}
 use Rattle.lines.proofs.put_pair.Tie as tie

@@ -1,6 +1,6 @@
 -- `lines::put_text` meets its contract: each arm puts the text of its line.
 -- Assumes nothing.
-use Rattle.lent.proofs.Wrote.{_then_}
+use Rattle.output.proofs.Wrote.{_then_}
 use borrow.Author.Needs.{needs}
 use Rattle.lines.proofs.put_text.Statement.{statement}
 use Rattle.lines.proofs.put_text.Tie as tie

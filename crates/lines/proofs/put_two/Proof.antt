@@ -1,6 +1,6 @@
 -- `lines::put_two` meets its contract: its parts are put one after the other.
 -- Assumes nothing.
-use Rattle.lent.proofs.Wrote.{_then_}
+use Rattle.output.proofs.Wrote.{_then_}
 use borrow.Author.Needs.{needs}
 use Rattle.lines.proofs.put_two.Statement.{statement}
 use Rattle.lines.proofs.put_two.Tie as tie

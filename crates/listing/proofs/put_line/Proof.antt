@@ -2,7 +2,7 @@
 -- Assumes nothing.
 use denote.Ref.{now}
 use native.Mathlib.Omega.{arith}
-use Rattle.lent.proofs.Fitting.{told, not-full}
+use Rattle.output.proofs.Fitting.{told, not-full}
 use Rattle.lines.specs.Line.{text}
 use borrow.Author.Needs.{needs}
 use Rattle.listing.proofs.put_line.Statement.{statement}
@@ -24,7 +24,7 @@ returns : tie.Need-returns
 returns c =
     let p = c .before .before .before .before .before in
     let a = p .before .before .before in
-    let w = told (now (a .args .out)) (a .args .at) (text (a .args .line)) _ (p .put-line .result) (p .put-line .ensures .0 .0) (p .put-line .ensures .1) (omega (arith, a .pre, p .put-line .ensures .0 .1)) (c .before .n .given .0 .0) (c .before .n .given .1) in
+    let w = told (now (a .args .out)) (a .args .at) (text (a .args .line)) (p .put-line .ensures .1) (omega (arith, a .pre, p .put-line .ensures .0 .1)) (p .put-line .ensures .0 .0) (c .before .n .given .0 .0) (c .before .n .given .1) in
     (w, omega (arith, w .ends, p .put-line .ensures .0 .1))
 
 same-length-2 : tie.Need-same-length-2
@@ -34,7 +34,7 @@ returns-2 : tie.Need-returns-2
 returns-2 c =
     let p = c .before .before .before .before in
     let a = p .before .before .before in
-    absurd (not-full (now (a .args .out)) (a .args .at) (text (a .args .line)) _ (p .put-line .result) (p .put-line .ensures .0 .0) (p .put-line .ensures .1) (omega (arith, a .pre, p .put-line .ensures .0 .1)) _ (c .enum-told .given .1))
+    absurd (not-full (now (a .args .out)) (a .args .at) (text (a .args .line)) (p .put-line .ensures .1) (omega (arith, a .pre, p .put-line .ensures .0 .1)) (p .put-line .ensures .0 .0) _ (c .enum-told .given .1))
 
 pub put-line-spec : {M : Type 1} → statement M
 put-line-spec =

@@ -10,7 +10,7 @@ use lib.Seq.{take-all}
 use lib.ListN.{length, take, drop, length-drop}
 use borrow.Author.Tests.{not-true, not-false}
 use Rattle.message_table.specs.Table.{isNdp}
-use Rattle.lent.proofs.Wrote.{nothing}
+use Rattle.output.proofs.Wrote.{nothing}
 use Rattle.listing.proofs.Text.{none-shown, part-cut, all-shown}
 use borrow.Author.Needs.{needs}
 use Rattle.listing.proofs.put_options.Statement.{statement}
@@ -26,7 +26,7 @@ ndp c = sym (c .before .is-ndp .ensures) ∙ not-false _ (c .if1 .left)
 returns : tie.Need-returns
 returns c =
     let a = c .before .before .before .before .args in
-    (rw (none-shown (a .kind) (now (a .packet)) (sym (c .before .is-ndp .ensures) ∙ not-true _ (c .if1 .taken))) (nothing (now (a .out)) (a .at) [] refl), omega arith)
+    (rw (none-shown (a .kind) (now (a .packet)) (sym (c .before .is-ndp .ensures) ∙ not-true _ (c .if1 .taken))) (nothing (now (a .out)) (a .at)), omega arith)
 
 fixed-len-requires : tie.Need-fixed-len-requires
 fixed-len-requires c κs = search needs

@@ -4,7 +4,7 @@ use denote.Ref.{now}
 use native.Mathlib.Omega.{arith}
 use mathlib.Core.Path.{_≡_, sym, ap, _∙_}
 use lib.ListN.{length, getD}
-use Rattle.lent.proofs.Wrote.{_then_}
+use Rattle.output.proofs.Wrote.{_then_}
 use Rattle.paper.specs.Paper.{gives}
 use Rattle.icmpv6.specs.Head.{decodeOf, headerTold, readTold}
 use Rattle.lines.specs.declared.Line.the-variants.{Head}

@@ -5,8 +5,8 @@ use native.Mathlib.Omega.{arith}
 use mathlib.Core.Path.{_≡_, refl, ap}
 use lib.ListN.{length, take}
 use Rattle.listing.specs.Packet.{recordText}
-use Rattle.lent.proofs.Wrote.{start}
-use Rattle.lent.proofs.Fitting.{fits}
+use Rattle.output.proofs.Wrote.{start}
+use Rattle.output.proofs.Fitting.{fits}
 use Rattle.capture.proofs.Writing.{held, not-held}
 use borrow.Author.Needs.{needs}
 use Rattle.listing.proofs.put_record.Statement.{statement}
@@ -31,7 +31,7 @@ returns-2 c =
     let i = r .before .before .before in
     let a = i .before .before .before .args in
     let w = l .put-text .ensures .0 in
-    simp (held (now (a .packet)) (i .if1 .left), fits (now (a .out)) (a .at) (recordText (a .number) (a .place) (a .hop-limit) (now (a .source)) (now (a .destination)) (now (a .packet))) (omega (arith, w .ends, l .put-text .ensures .1, r .if2 .taken, r .before .room .ensures)), w .ends) ((refl, λ h. omega (arith, w .ends, l .put-text .ensures .1)), w .holds)
+    simp (held (now (a .packet)) (i .if1 .left), fits (length (recordText (a .number) (a .place) (a .hop-limit) (now (a .source)) (now (a .destination)) (now (a .packet)))) (now (a .out)) (a .at) (omega (arith, w .ends, l .put-text .ensures .1, r .if2 .taken, r .before .room .ensures)), w .ends) ((refl, λ h. omega (arith, w .ends, l .put-text .ensures .1)), w .holds)
 
 slice-aggregate-put-text : tie.Need-slice-aggregate-put-text
 slice-aggregate-put-text c = search needs
@@ -51,13 +51,13 @@ Own c =
 own : (c : tie.After-put-text2) → Own c
 own c = start _ _ _ _ (c .put-text2 .ensures .0)
 
-slice-aggregate-put-bytes : tie.Need-slice-aggregate-put-bytes
-slice-aggregate-put-bytes c =
+slice-aggregate-put : tie.Need-slice-aggregate-put
+slice-aggregate-put c =
     let l = c .before .before .before in
     omega (arith, ap length (own l), l .put-text2 .ensures .0 .ends)
 
-put-bytes-requires : tie.Need-put-bytes-requires
-put-bytes-requires c κs = search needs
+put-requires : tie.Need-put-requires
+put-requires c κs = search needs
 
 same-length-2 : tie.Need-same-length-2
 same-length-2 c = search needs
@@ -68,7 +68,7 @@ returns-3 c =
     let l = p .before .before .before .before in
     let i = l .before .before .before .before .before in
     let a = i .before .before .before .args in
-    simp (held (now (a .packet)) (i .if1 .left), p .put-bytes .ensures .0, own l) ((refl, λ h. omega (arith, l .put-text2 .ensures .0 .ends, l .put-text2 .ensures .1)), rw (own l) at (p .put-bytes .ensures .1))
+    simp (held (now (a .packet)) (i .if1 .left), p .put .ensures .0, own l) ((refl, λ h. omega (arith, l .put-text2 .ensures .0 .ends, l .put-text2 .ensures .1)), rw (own l) at (p .put .ensures .1))
 
 pub put-record-spec : {M : Type 1} → statement M
 put-record-spec =
@@ -82,7 +82,7 @@ put-record-spec =
     slice-aggregate-put-text
     put-text-requires-2
     array-share-prefix-own
-    slice-aggregate-put-bytes
-    put-bytes-requires
+    slice-aggregate-put
+    put-requires
     same-length-2
     returns-3)

@@ -1,6 +1,6 @@
 -- `listing::put_text` meets its contract: the record's line, and then the packet's.
 -- Assumes nothing.
-use Rattle.lent.proofs.Wrote.{_then_}
+use Rattle.output.proofs.Wrote.{_then_}
 use Rattle.listing.specs.Packet.{recordText}
 use borrow.Author.Needs.{needs}
 use Rattle.listing.proofs.put_text.Statement.{statement}

@@ -7,8 +7,8 @@ use native.Mathlib.Omega.{arith}
 use lib.ListN.{length, drop}
 use denote.Ref.{now}
 use Rattle.refusal.specs.Paper.{refusal}
-use Rattle.lent.specs.Wrote.{Wrote}
-use Rattle.lent.proofs.Wrote.{_then_, nothing}
+use Rattle.output.specs.Output.{Wrote}
+use Rattle.output.proofs.Wrote.{_then_, nothing}
 use Rattle.lines.specs.Text.{optLine}
 use Rattle.ndp_walk.proofs.Steps.{Onward}
 use Rattle.ndp_options.specs.Rule.{rule}
@@ -48,7 +48,7 @@ new-requires c κs = search needs
 loop-holds : tie.Need-loop-holds Inv-loop μ-loop
 loop-holds c =
     let a = c .before .before .before .args in
-    rw (c .new .ensures) (omega arith, omega arith, omega arith, refl, ([], (nothing (now (a .out)) (a .at) [] refl, refl)))
+    rw (c .new .ensures) (omega arith, omega arith, omega arith, refl, ([], (nothing (now (a .out)) (a .at), refl)))
 
 step-requires : tie.Need-step-requires Inv-loop μ-loop
 step-requires c κs = search needs

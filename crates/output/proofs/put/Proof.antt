@@ -1,27 +1,98 @@
--- `put` meets its contract: without room the buffer is as it was; else the bytes stand over its start.
+-- `put` meets its contract: after i turns the first i bytes are pasted, and the buffer has its length.
 -- Assumes nothing.
+use Prim.Native.Nat.{ℕ, _≤_, _-_}
+use mathlib.Core.Path.{_≡_, refl, sym, _∙_, ap}
+use native.Mathlib.Omega.{arith}
+use native.Mathlib.Numerals.{add-one}
+use lib.ListN.{length, length-set}
+use lib.Seq.{paste, paste-zero, paste-suc, take-length}
 use denote.Ref.{now}
-use mathlib.Core.Path.{sym, _∙_}
-use lib.ListN.{length}
-use Rattle.output.proofs.Laws.{no-room, room, put-start}
 use borrow.Author.Needs.{needs}
+use Rattle.output.specs.Output.{over}
+use Rattle.output.proofs.Fitting.{fits, narrow}
 use Rattle.output.proofs.put.Statement.{statement}
 use Rattle.output.proofs.put.Tie as tie
 
-returns : tie.Need-returns
-returns c = let a = c .before .before .before .args in let e = no-room (length (now (a .bytes))) (now (a .out)) (c .if1 .taken) in (sym e, rw e)
+abbrev Inv-loop : tie.InvT-loop
+Inv-loop out₀ at bytes needed i₀ out i = (i ≤ length bytes) × (length out ≡ length out₀) × (out ≡ paste out₀ at bytes i)
 
-put-at-requires : tie.Need-put-at-requires
-put-at-requires c κs = search needs
+abbrev μ-loop : tie.MeasureT-loop
+μ-loop out₀ at bytes needed i₀ out i = length bytes - i
 
-same-length : tie.Need-same-length
+room-requires : tie.Need-room-requires Inv-loop μ-loop
+room-requires c κs = search needs
+
+same-length : tie.Need-same-length Inv-loop μ-loop
 same-length c = search needs
 
-returns-2 : tie.Need-returns-2
-returns-2 c = let p = c .before .before in
-    let a = p .before .before .before .before .before .args in
-    let e = room (length (now (a .bytes))) (now (a .out)) (p .before .before .if1 .left) in
-    (sym e, rw e (p .put-at .ensures ∙ put-start (now (a .out)) (now (a .bytes)) (p .before .before .if1 .left)))
+returns : tie.Need-returns Inv-loop μ-loop
+returns c =
+    let r = c .before in
+    let a = r .before .before .before .before .args in
+    simp (narrow (length (now (a .bytes))) (now (a .out)) (a .at) (omega (arith, c .if1 .taken, r .room .ensures))) (refl, refl)
+
+loop-holds : tie.Need-loop-holds Inv-loop μ-loop
+loop-holds c =
+    let a = c .before .before .before .before .before .args in
+    (omega arith, refl, paste-zero (now (a .out)) (a .at) (now (a .bytes)))
+
+shared-slice-read-out : tie.Need-shared-slice-read-out Inv-loop μ-loop
+shared-slice-read-out c = omega arith
+
+add-out : tie.Need-add-out Inv-loop μ-loop
+add-out c = omega arith
+
+slice-write-out : tie.Need-slice-write-out Inv-loop μ-loop
+slice-write-out c = omega arith
+
+add-i : tie.Need-add-i Inv-loop μ-loop
+add-i c = omega arith
+
+loop-less : tie.Need-loop-less Inv-loop μ-loop
+loop-less c = omega arith
+
+loop-again : tie.Need-loop-again Inv-loop μ-loop
+loop-again c =
+    let m = c .before .before in
+    let a = m .before .before .before .before .before .before .args in (
+      omega arith,
+      simp length-set (m .loop .inv .1),
+      rw (m .loop .inv .2, add-one (m .loop .i))
+          (paste-suc (now (a .out)) (a .at) (now (a .bytes)) (m .loop .i) 0 (omega arith) (omega arith)),
+    )
+
+add-t6 : tie.Need-add-t6 Inv-loop μ-loop
+add-t6 c = omega arith
+
+same-length-2 : tie.Need-same-length-2 Inv-loop μ-loop
+same-length-2 c = c .before .loop .inv .1
+
+returns-2 : tie.Need-returns-2 Inv-loop μ-loop
+unfolding over
+returns-2 c =
+    let m = c .before in
+    let i = m .before in
+    let a = i .before .before .before .before .before .args in
+    let end : m .loop .i ≡ length (now (a .bytes)) = omega arith in
+    simp (fits (length (now (a .bytes))) (now (a .out)) (a .at) (omega (arith, i .if1 .left, i .before .room .ensures)))
+    (refl, m .loop .inv .2 ∙ ap (λ (n : ℕ). paste (now (a .out)) (a .at) (now (a .bytes)) n) end ∙ rw take-length refl)
 
 pub put-spec : {M : Type 1} → statement M
-put-spec = tie.close (tie.spec returns put-at-requires same-length returns-2)
+put-spec =
+    tie.close
+    (tie.spec
+    Inv-loop
+    μ-loop
+    room-requires
+    same-length
+    returns
+    loop-holds
+    shared-slice-read-out
+    add-out
+    slice-write-out
+    add-i
+    loop-less
+    loop-again
+    add-t6
+    same-length-2
+    returns-2)

@@ -1,15 +1,16 @@
 -- `write_packet` meets its contract: each refusal leaves the output as it was; else the head and the payload behind it stand over its start.
 -- Assumes nothing.
-use Rattle.output.proofs.Laws.{put-two}
+use Rattle.output.proofs.Fitting.{fits, wrote}
+use Rattle.output.proofs.Wrote.{_then_}
 use Rattle.writer.proofs.Laws.{within, refused-write, refused-leaves, narrow, fitting}
-use Prim.Native.Nat.{ℕ, _+_, _≤_}
-use mathlib.Core.Path.{_≡_, sym, ap, _∙_}
+use Prim.Native.Nat.{ℕ, _+_, _-_, _≤_}
+use mathlib.Core.Path.{_≡_, refl, sym, ap, _∙_}
 use mathlib.Core.List.{List, [], _++_}
-use lib.ListN.{length, drop}
+use lib.ListN.{length}
 use denote.Ref.{now}
 use native.Mathlib.Omega.{arith}
 use Rattle.paper.specs.Paper.{gives}
-use Rattle.output.specs.Output.{putAt}
+use Rattle.output.specs.Output.{over}
 use Rattle.writer.specs.Write.{sendableTold, sendableOf, packetOf}
 use borrow.Author.Needs.{needs}
 use Rattle.writer.proofs.write_packet.Statement.{statement}
@@ -40,20 +41,20 @@ returns c = let p = passed (c .before) in
 sealed-head-requires : tie.Need-sealed-head-requires
 sealed-head-requires c κs = let a = c .before .before .before .before .before .before .args in within (a .icmp-type) (now (a .payload)) (passed (c .before))
 
-slice-aggregate-put-at : tie.Need-slice-aggregate-put-at
-slice-aggregate-put-at c = search needs
+slice-aggregate-put : tie.Need-slice-aggregate-put
+slice-aggregate-put c = search needs
 
-put-at-requires : tie.Need-put-at-requires
-put-at-requires c κs = search needs
+put-requires : tie.Need-put-requires
+put-requires c κs = search needs
 
-put-at-requires-2 : tie.Need-put-at-requires-2
-put-at-requires-2 c κs = search needs
+put-requires-2 : tie.Need-put-requires-2
+put-requires-2 c κs = search needs
 
 returns-2 : tie.Need-returns-2
 returns-2 c = let a = c .before .before .before .before .before .before .args in
     let why = c .before .why .given .0 .0 in
     let e = refused-write (a .icmp-type) (now (a .payload)) (now (a .out)) why (ap sendableTold (sym (c .before .why .given .1)) ∙ c .before .before .before .check .ensures) in
-    (sym e, rw e (refused-leaves why (packetOf (now (a .source)) (now (a .destination)) (a .icmp-type) (now (a .payload))) (now (a .out))))
+    (sym e, rw e (refused-leaves why (now (a .out)) (packetOf (now (a .source)) (now (a .destination)) (a .icmp-type) (now (a .payload)))))
 
 same-length : tie.Need-same-length
 same-length c = search needs
@@ -63,16 +64,15 @@ returns-3 c = let second = c .before .before in
     let first = second .before .before .before .before in
     let h = first .before .before .before in
     let a = h .before .before .before .before .before .before .before .args in
+    let out = now (a .out) in
     let payload = now (a .payload) in
-    let fits : 8 + length payload ≤ length (now (a .out)) = h .before .if1 .left in
-    let e = fitting (a .icmp-type) payload (now (a .out)) (passed (h .before .before)) fits in
-    let seam : length (h .sealed-head .result) ≡ 8 = search needs in (
-      sym e,
-      rw e
-          (second .put-at2 .ensures
-          ∙ ap (λ (l : List ℕ). putAt l 8 payload) (first .put-at .ensures)
-          ∙ put-two (now (a .out)) (h .sealed-head .result) payload 8 seam fits
-          ∙ ap (λ (l : List ℕ). l ++ payload ++ drop (length (l ++ payload)) (now (a .out))) (h .sealed-head .ensures)),
+    let enough : 8 + length payload ≤ length out = h .before .if1 .left in
+    let e = fitting (a .icmp-type) payload out (passed (h .before .before)) enough in
+    let seam : length (h .sealed-head .result) ≡ 8 = search needs in
+    let w = wrote out 0 (h .sealed-head .result) (first .put .ensures .1) (omega arith) 8 (omega arith) in
+    let v = w then wrote _ 8 payload (second .put2 .ensures .1) (omega (arith, enough, first .put .kept)) (8 + length payload) refl in (
+      second .put2 .ensures .0 ∙ fits (length payload) _ 8 (omega (arith, enough, first .put .kept)) ∙ sym e,
+      rw e (v .holds ∙ ap (λ (l : List ℕ). over out 0 (l ++ payload)) (h .sealed-head .ensures)),
     )
 
 pub write-packet-spec : {M : Type 1} → statement M
@@ -85,9 +85,9 @@ write-packet-spec =
     add-needed
     returns
     sealed-head-requires
-    slice-aggregate-put-at
-    put-at-requires
-    put-at-requires-2
+    slice-aggregate-put
+    put-requires
+    put-requires-2
     returns-2
     same-length
     returns-3)

@@ -15,9 +15,9 @@ use Rattle.c_api.proofs.written.brothladder_write.Tie as tie
 
 -- the same value leaves the same output
 left-by : (source destination payload out : List ℕ) {t u : Icmpv6Type} → t ≡ u →
-    leaves (writeOf t payload out) (packetOf source destination t payload) out ≡ leaves (writeOf u payload out) (packetOf source destination u payload) out
+    leaves (writeOf t payload out) out 0 (packetOf source destination t payload) ≡ leaves (writeOf u payload out) out 0 (packetOf source destination u payload)
 left-by source destination payload out e =
-    ap (λ (t : Icmpv6Type). leaves (writeOf t payload out) (packetOf source destination t payload) out) e
+    ap (λ (t : Icmpv6Type). leaves (writeOf t payload out) out 0 (packetOf source destination t payload)) e
 
 u32-to-be-requires : tie.Need-u32-to-be-requires
 u32-to-be-requires c κs = search needs

@@ -1,8 +1,8 @@
--- `lent::room` meets its contract: a difference of lengths that is cut off at 0.
+-- `room` meets its contract: a difference of lengths that is cut off at 0.
 -- Assumes nothing.
 use borrow.Author.Needs.{needs}
-use Rattle.lent.proofs.room.Statement.{statement}
-use Rattle.lent.proofs.room.Tie as tie
+use Rattle.output.proofs.room.Statement.{statement}
+use Rattle.output.proofs.room.Tie as tie
 
 sub-result : tie.Need-sub-result
 sub-result c = search needs

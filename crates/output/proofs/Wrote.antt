@@ -11,7 +11,7 @@ use lib.Dec.{leb}
 use lib.ListN.{length, take, drop, take-append-drop, set, length-append, drop-of-length-le, length-drop}
 use lib.Seq.{take-length, length-take-le, take-all, take-at, drop-at, drop-drop, set-split, append-snoc}
 use borrow.Author.Tests.{leb-true, leb-false}
-use Rattle.lent.specs.Wrote.{over, Wrote}
+use Rattle.output.specs.Output.{over, Wrote}
 
 module _ (out : List ℕ) (at : ℕ) (a : List ℕ) where
   front : take (at + length a) (over out at a) ≡ take at out ++ a
@@ -65,33 +65,20 @@ one out at byte h =
       holds = set-split out at byte h ∙ rw (add-one at) (sym (append-snoc (take at out) byte (drop (suc at) out)));
     }
 
+-- no bytes
+pub nothing : (out : List ℕ) (at : ℕ) → Wrote out at [] out at
+unfolding over
+nothing out at = record { ends = sym (add-zero at); holds = rw (add-zero at, append-nil (take at out)) (sym (take-append-drop at out)) }
+
 -- at the start the buffer is the bytes and what follows them
 pub over-start : (out bytes : List ℕ) → over out 0 bytes ≡ bytes ++ drop (length bytes) out
 unfolding over
 over-start out bytes = rw (zero-add (length bytes))
 
+-- a buffer of just their length holds them alone
+pub over-whole : (out bytes : List ℕ) → length bytes ≡ length out → over out 0 bytes ≡ bytes
+over-whole out bytes h = over-start out bytes ∙ simp (drop-of-length-le out {i = length bytes} (omega arith), append-nil)
+
 -- bytes that were put at the start can be read there
 pub start : (out bytes left : List ℕ) (n : ℕ) → Wrote out 0 bytes left n → take n left ≡ bytes
 start out bytes left n w = rw (w .ends, w .holds) (front out 0 bytes)
-
--- a copy into the part of the buffer from the place on
-pub copied : (out : List ℕ) (at : ℕ) (bytes part : List ℕ) → at + length bytes ≤ length out
-    → part ≡ take (length bytes) bytes ++ drop (length bytes) (take (length out - at) (drop at out))
-    → Wrote out at bytes (take at out ++ (part ++ drop (length out - at) (drop at out))) (at + length bytes)
-unfolding over
-copied out at bytes part fits e =
-    let all : length (drop at out) ≤ length out - at = simp length-drop (omega arith) in
-    let none : drop (length out - at) (drop at out) ≡ [] = drop-of-length-le (drop at out) {i = length out - at} all in
-    record {
-      ends = refl;
-      holds = rw (e, none, append-nil, take-all (length out - at) (drop at out) all, take-length bytes, drop-drop (length bytes) at out) (sym (append-assoc (take at out) bytes (drop (at + length bytes) out)));
-    }
-
--- no bytes
-pub nothing : (out : List ℕ) (at : ℕ) (bytes : List ℕ) → length bytes ≡ 0 → Wrote out at bytes out at
-unfolding over
-nothing out at [] h = record { ends = sym (add-zero at); holds = rw (add-zero at, append-nil (take at out)) (sym (take-append-drop at out)) }
-nothing out at (b ∷ bytes) h = absurd (some (length bytes) h)
-  where
-    some : (n : ℕ) → suc n ≡ 0 → ⊥
-    some n h = omega arith

@@ -1,4 +1,0 @@
-pub mod Wrote
-pub mod Fitting
-pub mod Paper
-pub mod Unique
