@@ -28,7 +28,7 @@ use Rattle.ndp_options.specs.Told.{kindNumber, stepTold}
 use Rattle.ndp_options.specs.declared.Step.{Step}
 use Rattle.ndp_options.specs.declared.Step.the-variants.{Handed, End, Refused as StepRefused, Stopped}
 use Rattle.ndp_options.specs.declared.NdpOptionKind.{NdpOptionKind}
-use Rattle.ndp_options.specs.declared.NdpOptionKind.the-variants as kinds
+use Rattle.ndp_options.proofs.Told.{kindBack, kind-back}
 use Rattle.c_api.specs.Answer.{UNKNOWN, VALID, INVALID, OPTION, END, STOPPED, RECEIVED, WRITTEN}
 use Rattle.c_api.specs.declared.head.Head.{Head}
 use Rattle.c_api.specs.declared.verified.Verified.{Verified}
@@ -74,29 +74,14 @@ written-back (To n) = refl
 written-back (NotWritten r) = simp (refusal-numbered r) (ap NotWritten (refusal-back r))
 
 -- ---- a step
-abbrev kindFrom : ℕ → NdpOptionKind
-kindFrom k =
-    cond (eqb k 1) kinds.SourceLinkLayerAddress
-    (cond (eqb k 2) kinds.TargetLinkLayerAddress
-    (cond (eqb k 3) kinds.PrefixInformation
-    (cond (eqb k 4) kinds.RedirectedHeader (cond (eqb k 5) kinds.Mtu kinds.Unknown))))
-
 abbrev stepFrom : Stepped → Step
 stepFrom s =
     cond (eqb (s .answer) OPTION)
     (Handed
-    (record { kind = kindFrom (s .kind); «option_type» = record { 0 = s .«option_type» }; at = s .at; len = s .length })
+    (record { kind = kindBack (s .kind); «option_type» = record { 0 = s .«option_type» }; at = s .at; len = s .length })
     (record { at = s .next }))
     (cond (eqb (s .answer) END) End
     (cond (eqb (s .answer) STOPPED) Stopped (StepRefused (why (s .refusal) (s .value)) (record { at = s .next }))))
-
-kind-back : (k : NdpOptionKind) → kindFrom (kindNumber k) ≡ k
-kind-back kinds.Unknown = refl
-kind-back kinds.SourceLinkLayerAddress = refl
-kind-back kinds.TargetLinkLayerAddress = refl
-kind-back kinds.PrefixInformation = refl
-kind-back kinds.RedirectedHeader = refl
-kind-back kinds.Mtu = refl
 
 -- wherever it was asked
 pub stepped-back : (at : ℕ) (x : Step) → stepFrom (steppedFor at (stepTold x)) ≡ x

@@ -9,7 +9,9 @@ use lib.Seq.{take-at, drop-at, getD-at, take-add, take-suc, length-take-le}
 use Rattle.paper.specs.Paper.{Paper, gives}
 use Rattle.capture.specs.Record.{mark, hopLimit, source, destination, packet, packetLen, recordBytes, recordOf}
 use Rattle.capture.specs.Capture.{recordLen}
-use Rattle.capture.proofs.Judged.{begins-take, whole}
+use Rattle.wire.specs.Prefix.{begins}
+use Rattle.wire.proofs.Prefix.{begins-with}
+use Rattle.capture.proofs.Judged.{whole}
 use Rattle.capture.proofs.Laws.{Found}
 
 -- the parts, and any bytes after the record
@@ -64,7 +66,7 @@ module _ (hop : ℕ) (src dst p t : List ℕ) (s16 : length src ≡ 16) (d16 : l
 
   -- read back: what was written, whatever follows it
   pub read-back : (place : ℕ) → length p ≤ 2048 → recordOf (recordBytes hop src dst p ++ t) place ≡ gives (hop ∷ length p ∷ [])
-  unfolding recordBytes
+  unfolding recordBytes begins
   read-back place few =
       let n : length (recordBytes hop src dst p ++ t) ≡ 37 + length p + length t = simp length-append (omega arith) in
       whole (recordBytes hop src dst p ++ t) place (omega arith) refl (omega arith) (rw len-back few) (rw len-back (omega arith)) ∙ rw len-back
@@ -88,7 +90,7 @@ determined s p f low =
       take-add 19 16 s,
       take-add 3 16 s,
       take-suc s 2 0 (omega arith),
-      begins-take mark s (f .marked),
+      begins-with mark s (f .marked),
     )
     (ap (λ (l : List ℕ). l ++ take (packetLen s) (drop 37 s))
     (append-assoc (mark ++ (getD s 2 0 ∷ []) ++ take 16 (drop 3 s) ++ take 16 (drop 19 s)) (getD s 35 0 ∷ []) (getD s 36 0 ∷ [])))

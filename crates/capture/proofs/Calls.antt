@@ -8,7 +8,7 @@ use native.Mathlib.Omega.{arith}
 use lib.Dec.{ltb}
 use lib.ListN.{length, getD, drop, length-drop}
 use borrow.Author.Tests.{ltb-false, le-ltb, eqb-false}
-use Rattle.paper.specs.Paper.{Paper, refuses, gives}
+use Rattle.paper.specs.Paper.{Paper, refuses, gives, value}
 use Rattle.refusal.specs.declared.Refusal.{Refusal}
 use Rattle.refusal.specs.Paper.{refusal}
 use Rattle.refusal.proofs.Paper.{refusal-numbered}
@@ -17,22 +17,8 @@ use Rattle.capture.specs.declared.Next.{Next}
 use Rattle.capture.specs.declared.Next.the-variants.{Found, End, Refused}
 use Rattle.capture.specs.Paper.{nextPaper}
 use Rattle.capture.specs.Record.{hopLimit, packetLen, recordOf, isRecord, placed, placeIn, nextOf}
-use Rattle.capture.specs.Capture.{recordLen}
+use Rattle.capture.specs.Capture.{recordLen, FoundAt}
 use Rattle.capture.proofs.Seen.{Seen, ended, cut, unmarked, long, found, seen}
-
-abbrev value : ℕ → Paper → ℕ
-value i p = getD (p .values) i 0
-
--- a record, and where its parts are
-pub record FoundAt (s : List ℕ) (at place : ℕ) (r : Record) : Type 0 where
-  pub here : isRecord (recordOf (drop at s) place) ≡ true
-  pub hop : r .«hop_limit» ≡ hopLimit (drop at s)
-  pub source : r .source ≡ at + 3
-  pub destination : r .destination ≡ at + 19
-  pub packet : r .packet ≡ at + 37
-  pub len : r .len ≡ packetLen (drop at s)
-  pub next : r .next ≡ at + recordLen (drop at s)
-  pub within : at + recordLen (drop at s) ≤ length s
 
 -- an answer with no number says so of the bytes from the place on
 pub not-beyond : (s : List ℕ) (at base : ℕ) (p : Paper) → (p .number ≡ 14 → ⊥) → p ≡ nextOf s at base → (at ≤ length s) × (p ≡ placed at (recordOf (drop at s) (placeIn base at)))

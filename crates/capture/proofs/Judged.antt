@@ -1,4 +1,4 @@
--- The seven answers at a place, each from the tests that lead to it, and the mark as a test and as an equation of lists.
+-- The seven answers at a place, each from the tests that lead to it.
 -- Assumes nothing.
 use Prim.Native.Nat.{ℕ, _+_, _-_, _<_, _≤_}
 use mathlib.Core.Path.{_≡_, refl, sym}
@@ -9,35 +9,8 @@ use lib.Dec.{eqb}
 use lib.ListN.{length, take, drop, take-append-drop}
 use borrow.Author.Tests.{eqb-true, eq-eqb, ne-eqb, lt-ltb, le-ltb}
 use Rattle.paper.specs.Paper.{refuses, gives}
-use Rattle.capture.specs.Record.{mark, begins, hopLimit, packetLen, recordOf}
-
-both-true : (a b : Bool) → (a && b) ≡ true → (a ≡ true) × (b ≡ true)
-both-true true b e = (refl, e)
-both-true false b e = (e, cc)
-
-pub begins-with : (m t : List ℕ) → begins m (m ++ t) ≡ true
-begins-with [] t = refl
-begins-with (a ∷ m) t = simp (eq-eqb a a refl, begins-with m t)
-
--- what begins with some bytes has them in front
-pub begins-take : (m s : List ℕ) → begins m s ≡ true → take (length m) s ≡ m
-begins-take [] s e = refl
-begins-take (a ∷ m) [] e = cc
-begins-take (a ∷ m) (b ∷ s) e =
-    let p = both-true (eqb b a) (begins m s) e in
-    rw (eqb-true b a (p .0), begins-take m s (p .1))
-
-pub take-begins : (m s : List ℕ) → take (length m) s ≡ m → begins m s ≡ true
-take-begins m s e = rw (← (take-append-drop (length m) s), e) (begins-with m (drop (length m) s))
-
--- what a comparison says of the bytes in front, the test says
-pub same-begins : (m s : List ℕ) (t : Bool) → (t ≡ true → take (length m) s ≡ m) → (take (length m) s ≡ m → t ≡ true) → begins m s ≡ t
-same-begins m s true p q = take-begins m s (p refl)
-same-begins m s false p q = by (begins m s) refl
-  where
-    by : (b : Bool) → begins m s ≡ b → b ≡ false
-    by true e = sym (q (begins-take m s e))
-    by false e = refl
+use Rattle.wire.specs.Prefix.{begins}
+use Rattle.capture.specs.Record.{mark, hopLimit, packetLen, recordOf}
 
 -- s from the record's first byte on
 module _ (s : List ℕ) (place : ℕ) where

@@ -9,7 +9,9 @@ use native.Mathlib.Omega.{arith}
 use lib.ListN.{length, take, drop, length-append, length-drop, List·getD-append}
 use lib.Seq.{take-append-le, drop-append-le}
 use Rattle.paper.specs.Paper.{Paper, gives}
-use Rattle.capture.specs.Record.{mark, begins, hopLimit, source, destination, packet, packetLen, recordOf, isRecord}
+use Rattle.wire.specs.Prefix.{begins}
+use Rattle.wire.proofs.Prefix.{begins-more}
+use Rattle.capture.specs.Record.{mark, hopLimit, source, destination, packet, packetLen, recordOf, isRecord}
 use Rattle.capture.specs.Capture.{settled, recordLen}
 use Rattle.capture.proofs.Judged.{not-marked, too-long, whole}
 use Rattle.capture.proofs.Seen.{Seen, ended, cut, unmarked, long, found, seen}
@@ -35,14 +37,6 @@ few-by (cut h k) e = k
 few-by (unmarked h k) e = absurd (false≢true (sym e))
 few-by (long h m l) e = absurd (false≢true (sym e))
 few-by (found h m l k) e = absurd (false≢true (sym e))
-
-pub begins-more : (m s t : List ℕ) → length m ≤ length s → begins m (s ++ t) ≡ begins m s
-begins-more [] s t h = refl
-begins-more (a ∷ m) [] t h = absurd (none (length m) h)
-  where
-    none : (n : ℕ) → suc n ≤ 0 → ⊥
-    none n h = omega arith
-begins-more (a ∷ m) (b ∷ s) t h = rw (begins-more m s t (omega arith))
 
 -- of the same bytes the same length
 pub same-len : (s t : List ℕ) → 37 ≤ length s → packetLen (s ++ t) ≡ packetLen s

@@ -9,7 +9,8 @@ use lib.Dec.{eqb, ltb}
 use lib.ListN.{length}
 use borrow.Author.Tests.{eqb-true, eqb-false, ltb-true, ltb-false}
 use Rattle.paper.specs.Paper.{Paper, refuses, gives}
-use Rattle.capture.specs.Record.{mark, begins, hopLimit, packetLen, recordOf}
+use Rattle.wire.specs.Prefix.{begins}
+use Rattle.capture.specs.Record.{mark, hopLimit, packetLen, recordOf}
 use Rattle.capture.proofs.Judged.{none-left, one-left, not-marked, head-cut, too-long, body-cut, whole}
 
 pub data Seen (s : List ℕ) (place : ℕ) : Paper → Type 0 where

@@ -1,13 +1,14 @@
 -- A whole capture, record after record from its first byte on.
 -- Assumes nothing.
-use Prim.Native.Nat.{ℕ, zero, suc, _+_}
-use mathlib.Core.Bool.{Bool, cond, _||_}
+use Prim.Native.Nat.{ℕ, zero, suc, _+_, _≤_}
+use mathlib.Core.Bool.{Bool, true, cond, _||_}
 use mathlib.Core.List.{List, [], _∷_, _++_}
 use mathlib.Core.Path.{_≡_}
 use lib.Dec.{eqb}
 use lib.ListN.{length, take, drop}
 use Rattle.paper.specs.Paper.{Paper}
-use Rattle.capture.specs.Record.{packetLen, recordOf, isRecord}
+use Rattle.capture.specs.declared.Record.{Record}
+use Rattle.capture.specs.Record.{hopLimit, packetLen, recordOf, isRecord}
 
 -- a record: the place of its first byte, and its bytes
 pub record Item : Type 0 where
@@ -54,3 +55,14 @@ Touch from (i ∷ is) to = (i .place ≡ from) × Touch (from + length (i .bytes
 abbrev pub allBytes : List Item → List ℕ
 allBytes [] = []
 allBytes (i ∷ is) = i .bytes ++ allBytes is
+
+-- a record, and where its parts are
+pub record FoundAt (s : List ℕ) (at place : ℕ) (r : Record) : Type 0 where
+  pub here : isRecord (recordOf (drop at s) place) ≡ true
+  pub hop : r .«hop_limit» ≡ hopLimit (drop at s)
+  pub source : r .source ≡ at + 3
+  pub destination : r .destination ≡ at + 19
+  pub packet : r .packet ≡ at + 37
+  pub len : r .len ≡ packetLen (drop at s)
+  pub next : r .next ≡ at + recordLen (drop at s)
+  pub within : at + recordLen (drop at s) ≤ length s

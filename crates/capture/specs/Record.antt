@@ -1,21 +1,17 @@
 -- Document 01, "The dump and its records": mark 49 36, hop limit, source 16, destination 16, length 2 high byte first, packet.
 -- Assumes nothing.
 use Prim.Native.Nat.{ℕ, _+_, _-_, _/_, _%_, _^_}
-use mathlib.Core.Bool.{Bool, true, false, cond, not, _&&_}
+use mathlib.Core.Bool.{Bool, cond, not}
 use mathlib.Core.List.{List, [], _∷_, _++_}
 use lib.Dec.{ltb, eqb}
 use lib.ListN.{length, getD, take, drop}
 use Rattle.paper.specs.Paper.{Paper, refuses, gives}
+use Rattle.wire.specs.Prefix.{begins}
 use Rattle.wire.specs.Wire.{word16}
 
 -- "I6" in ASCII
 abbrev pub mark : List ℕ
 mark = 73 ∷ 54 ∷ []
-
-abbrev pub begins : List ℕ → List ℕ → Bool
-begins [] s = true
-begins (m ∷ ms) [] = false
-begins (m ∷ ms) (b ∷ s) = eqb b m && begins ms s
 
 -- the parts of a record that begins with the first byte of s
 abbrev pub hopLimit : List ℕ → ℕ

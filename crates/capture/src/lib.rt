@@ -52,7 +52,7 @@ fn first_record(left: &[u8], at: usize, place: u64) -> Next
     if left.len() < 2 {
         return Next::Refused(Refusal::CaptureEnds { place });
     }
-    if !check::same(&left[..2], b"I6") {
+    if !wire::begins_with(left, b"I6") {
         return Next::Refused(Refusal::NoMark { place });
     }
     if left.len() < HEAD_LEN {

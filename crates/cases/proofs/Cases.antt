@@ -1,6 +1,7 @@
 -- Every case of the table holds: each side of each claim computes to the other.
 -- Assumes nothing.
 use mathlib.Core.Path.{refl}
+use Rattle.paper.specs.Each.{Each}
 use Rattle.message_table.specs.Table.{known, fixedLen}
 use Rattle.packet_length.specs.Length.{sized}
 use Rattle.icmpv6_type.specs.Value.{typeOf}
@@ -14,8 +15,8 @@ use Rattle.prefix_information.specs.Prefix.{prefixOf}
 use Rattle.checksum.specs.Ones.{_⊕_}
 use Rattle.checksum.specs.Icmpv6.{sumOf, verdictOf}
 use Rattle.icmpv6_payload_slice.specs.Dispatch.{payloadOf}
-use Rattle.cases.specs.Table.{table, All}
+use Rattle.cases.specs.Table.{table, Claim}
 
-pub hold : All table
+pub hold : Each Claim table
 unfolding known fixedLen sized typeOf decodeOf judge walkOn walkFrom stepBy rule exactlyOf prefixOf _⊕_ sumOf verdictOf payloadOf
 hold = (refl, (refl, (refl, (refl, (refl, (refl, (refl, (refl, (refl, (refl, (refl, (refl, (refl, (refl, (refl, (refl, (refl, (refl, tt))))))))))))))))))

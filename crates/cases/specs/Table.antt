@@ -104,7 +104,3 @@ table =
     -- P14 type 135, payload 15: 4 (16, 15)
     ∷ dispatches 135 (zeros 15) (refuses 4 (16 ∷ 15 ∷ []))
     ∷ []
-
-abbrev pub All : List Case → Type 0
-All [] = Unit
-All (c ∷ cs) = Claim c × All cs

@@ -22,7 +22,7 @@ use Rattle.capture.specs.Record.{hopLimit, source, destination, packet, packetL
 use Rattle.capture.specs.Capture.{settled, recordLen, captureFrom}
 use Rattle.capture.proofs.Seen.{Seen, ended, cut, unmarked, long, found, seen}
 use Rattle.capture.proofs.Laws.{is-found}
-use Rattle.capture.proofs.Calls.{FoundAt}
+use Rattle.capture.specs.Capture.{FoundAt}
 use Rattle.lines.specs.Text.{recordsLine, stoppedLine}
 use Rattle.listing.specs.Packet.{recordText}
 use Rattle.listing.specs.Whole.{restText}

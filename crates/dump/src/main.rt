@@ -4,7 +4,7 @@ ghost use mathlib.Core.Path.{_≡_};
 ghost use mathlib.Core.Bool.{true, false};
 ghost use Prim.Native.Nat.{_+_, _-_, _<_, _≤_};
 ghost use lib.ListN.{length, take, drop};
-ghost use Rattle.capture.proofs.Calls.{FoundAt};
+ghost use Rattle.capture.specs.Capture.{FoundAt};
 ghost use Rattle.lines.specs.Line.{text};
 ghost use Rattle.dump.specs.Dump.{Record·put, Line·put, Stepped, Scanned, Filled·in, Held, Refilled, Turned};
 use capture::Next;

@@ -2,7 +2,6 @@
 -- Assumes nothing.
 use mathlib.Core.Path.{_≡_, refl}
 use mathlib.Core.Bool.{true}
-use Rattle.lines.specs.declared.Word.the-variants.{Rs}
 use Rattle.lines.specs.declared.Line.the-variants as line
 use Rattle.lines.specs.Digits.{decimal, decimalBy}
 use Rattle.lines.specs.Text.{ascii, field}
@@ -15,7 +14,7 @@ record-2 : text (line.Record 2 53) ≡ ascii "record 2 at 53\n"
 unfolding field decimal decimalBy
 record-2 = refl
 
-head-1 : text (line.Head Rs 0 31276 true 16 5) ≡ ascii "rs code 0 sum 7a2c ok len 16 recv 5\n"
+head-1 : text (line.Head 133 0 31276 true 16 5) ≡ ascii "rs code 0 sum 7a2c ok len 16 recv 5\n"
 unfolding field decimal decimalBy
 head-1 = refl
 

@@ -1,27 +1,27 @@
 -- The text of each line.
 -- Assumes nothing.
-use Prim.Native.Nat.{ℕ, _-_}
-use mathlib.Core.Bool.{Bool, true, false}
+use Prim.Native.Nat.{ℕ}
+use mathlib.Core.Bool.{Bool, true, false, cond}
 use mathlib.Core.List.{List}
-use Rattle.lines.specs.declared.Word.{Word}
-use Rattle.lines.specs.declared.Word.the-variants.{Unreach, TooBig, Exceeded, Param, EchoReq, EchoRep, Rs, Ra, Ns, Na, Redirect, Unknown}
+use lib.Dec.{eqb}
 use Rattle.lines.specs.declared.Line.{Line}
 use Rattle.lines.specs.declared.Line.the-variants as line
 use Rattle.lines.specs.Text.{ascii, titleLine, recordLine, headLine, optLine, endLine, refusedAtLine, refusedLine, recordsLine, stoppedLine}
 
-abbrev pub wordOf : Word → List ℕ
-wordOf Unreach = ascii "unreach"
-wordOf TooBig = ascii "toobig"
-wordOf Exceeded = ascii "exceeded"
-wordOf Param = ascii "param"
-wordOf EchoReq = ascii "echoreq"
-wordOf EchoRep = ascii "echorep"
-wordOf Rs = ascii "rs"
-wordOf Ra = ascii "ra"
-wordOf Ns = ascii "ns"
-wordOf Na = ascii "na"
-wordOf Redirect = ascii "redirect"
-wordOf Unknown = ascii "unknown"
+-- the word for a kind, which is the type of a known message and 0 of an Unknown
+abbrev pub wordFor : ℕ → List ℕ
+wordFor kind =
+    cond (eqb kind 1) (ascii "unreach")
+    (cond (eqb kind 2) (ascii "toobig")
+    (cond (eqb kind 3) (ascii "exceeded")
+    (cond (eqb kind 4) (ascii "param")
+    (cond (eqb kind 128) (ascii "echoreq")
+    (cond (eqb kind 129) (ascii "echorep")
+    (cond (eqb kind 133) (ascii "rs")
+    (cond (eqb kind 134) (ascii "ra")
+    (cond (eqb kind 135) (ascii "ns")
+    (cond (eqb kind 136) (ascii "na")
+    (cond (eqb kind 137) (ascii "redirect") (ascii "unknown")))))))))))
 
 -- whether the checksum is right
 abbrev pub okWord : Bool → List ℕ
@@ -31,7 +31,7 @@ okWord false = ascii " bad"
 abbrev pub text : Line → List ℕ
 text line.Title = titleLine
 text (line.Record n p) = recordLine n p
-text (line.Head w c s ok l r) = headLine (wordOf w) c s (okWord ok) l r
+text (line.Head k c s ok l r) = headLine (wordFor k) c s (okWord ok) l r
 text (line.Opt p k l) = optLine p k l
 text (line.End n) = endLine n
 text (line.RefusedAt r p) = refusedAtLine r p

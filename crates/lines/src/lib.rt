@@ -6,24 +6,8 @@ ghost use lib.ListN.{length};
 ghost use Rattle.output.specs.Output.{writtenTold, roomFor, leaves, Wrote};
 ghost use Rattle.lines.specs.Digits.{decimal, pair, hex4, glyph as Digits·glyph};
 ghost use Rattle.lines.specs.Text.{field, newline};
-ghost use Rattle.lines.specs.Line.{wordOf, okWord, text};
+ghost use Rattle.lines.specs.Line.{wordFor, okWord, text};
 use output::Written;
-
-// The words for the message types.
-pub enum Word {
-    Unreach,
-    TooBig,
-    Exceeded,
-    Param,
-    EchoReq,
-    EchoRep,
-    Rs,
-    Ra,
-    Ns,
-    Na,
-    Redirect,
-    Unknown,
-}
 
 // The lines, in the order in which a listing has them.
 pub enum Line {
@@ -32,8 +16,9 @@ pub enum Line {
         number: u64,
         place: u64,
     },
+    // `kind`: the type of a known message, 0 of an Unknown.
     Head {
-        word: Word,
+        kind: u8,
         code: u8,
         sum: u16,
         ok: bool,
@@ -90,13 +75,13 @@ fn put_text(out: &mut [u8], at: usize, line: Line) -> usize
         Line::Title => put_bytes(out, at, b"icmp6 1\n"),
         Line::Record { number, place } => put_two(out, at, b"record ", number, b" at ", place),
         Line::Head {
-            word,
+            kind,
             code,
             sum,
             ok,
             len,
             recv,
-        } => put_head(out, at, word, code, sum, ok, len, recv),
+        } => put_head(out, at, kind, code, sum, ok, len, recv),
         Line::Opt { place, kind, bytes } => {
             let a = put_field(out, at, b"opt ", place);
             put_two(out, a, b" type ", kind as u64, b" bytes ", bytes)
@@ -127,7 +112,7 @@ fn put_text(out: &mut [u8], at: usize, line: Line) -> usize
 fn put_head(
     out: &mut [u8],
     at: usize,
-    word: Word,
+    kind: u8,
     code: u8,
     sum: u16,
     ok: bool,
@@ -135,10 +120,10 @@ fn put_head(
     recv: u64,
 ) -> usize
     requires { ⌜ at + 128 ≤ length (now out) ⌝ }
-    ensures wrote { λ r. ⌜ Wrote (now (out .entry)) at (text (Line.Head word code sum ok len recv)) (now (out .exit)) r ⌝ }
+    ensures wrote { λ r. ⌜ Wrote (now (out .entry)) at (text (Line.Head kind code sum ok len recv)) (now (out .exit)) r ⌝ }
     ensures short { λ r. ⌜ r ≤ at + 128 ⌝ }
 {
-    let a = put_word(out, at, word);
+    let a = put_word(out, at, kind);
     let b = put_field(out, a, b" code ", code as u64);
     let c = put_bytes(out, b, b" sum ");
     let d = put_hex4(out, c, sum);
@@ -147,24 +132,24 @@ fn put_head(
     put_one(out, f, b" recv ", recv)
 }
 
-fn put_word(out: &mut [u8], at: usize, word: Word) -> usize
+fn put_word(out: &mut [u8], at: usize, kind: u8) -> usize
     requires { ⌜ at + 8 ≤ length (now out) ⌝ }
-    ensures wrote { λ r. ⌜ Wrote (now (out .entry)) at (wordOf word) (now (out .exit)) r ⌝ }
+    ensures wrote { λ r. ⌜ Wrote (now (out .entry)) at (wordFor kind) (now (out .exit)) r ⌝ }
     ensures short { λ r. ⌜ r ≤ at + 8 ⌝ }
 {
-    match word {
-        Word::Unreach => put_bytes(out, at, b"unreach"),
-        Word::TooBig => put_bytes(out, at, b"toobig"),
-        Word::Exceeded => put_bytes(out, at, b"exceeded"),
-        Word::Param => put_bytes(out, at, b"param"),
-        Word::EchoReq => put_bytes(out, at, b"echoreq"),
-        Word::EchoRep => put_bytes(out, at, b"echorep"),
-        Word::Rs => put_bytes(out, at, b"rs"),
-        Word::Ra => put_bytes(out, at, b"ra"),
-        Word::Ns => put_bytes(out, at, b"ns"),
-        Word::Na => put_bytes(out, at, b"na"),
-        Word::Redirect => put_bytes(out, at, b"redirect"),
-        Word::Unknown => put_bytes(out, at, b"unknown"),
+    match kind {
+        1 => put_bytes(out, at, b"unreach"),
+        2 => put_bytes(out, at, b"toobig"),
+        3 => put_bytes(out, at, b"exceeded"),
+        4 => put_bytes(out, at, b"param"),
+        128 => put_bytes(out, at, b"echoreq"),
+        129 => put_bytes(out, at, b"echorep"),
+        133 => put_bytes(out, at, b"rs"),
+        134 => put_bytes(out, at, b"ra"),
+        135 => put_bytes(out, at, b"ns"),
+        136 => put_bytes(out, at, b"na"),
+        137 => put_bytes(out, at, b"redirect"),
+        _ => put_bytes(out, at, b"unknown"),
     }
 }
 

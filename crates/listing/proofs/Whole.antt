@@ -15,7 +15,8 @@ use Rattle.capture.proofs.Laws.{is-found, stable, same-len, same-parts}
 use Rattle.capture.proofs.Whole.{first, goes-on, stops, along, joined}
 use Rattle.lines.specs.Text.{titleLine, recordsLine, stoppedLine}
 use Rattle.listing.specs.Packet.{recordText}
-use Rattle.listing.specs.Whole.{itemText, recordsText, lastText, restText, listingOf, piecesText, concat}
+use Rattle.ndp_walk.specs.Laws.{concat}
+use Rattle.listing.specs.Whole.{itemText, recordsText, lastText, restText, listingOf, piecesText}
 
 -- records, and then a capture
 records-follow : (n : ℕ) (is js : List Item) → recordsText n (is ++ js) ≡ recordsText n is ++ recordsText (n + length is) js

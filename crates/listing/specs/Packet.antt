@@ -5,7 +5,7 @@ use mathlib.Core.Bool.{cond}
 use mathlib.Core.List.{List, [], _∷_, _++_}
 use lib.Dec.{ltb, eqb}
 use lib.ListN.{length, getD, drop}
-use Rattle.paper.specs.Paper.{Paper}
+use Rattle.paper.specs.Paper.{Paper, value}
 use Rattle.message_table.specs.Table.{fixedLen, isNdp}
 use Rattle.icmpv6.specs.Head.{decodeOf}
 use Rattle.checksum.specs.Icmpv6.{verdictOf}
@@ -13,27 +13,8 @@ use Rattle.checksum.specs.Fields.{isValid}
 use Rattle.receive.specs.Receive.{receiveOf}
 use Rattle.ndp_walk.specs.Walk.{Item, Ending, Clean, RefusedAt, Walk}
 use Rattle.ndp_options.specs.Walk.{walk}
-use Rattle.lines.specs.Line.{okWord}
-use Rattle.lines.specs.Text.{ascii, recordLine, headLine, optLine, endLine, refusedAtLine, refusedLine}
-
--- the i-th value of an answer
-abbrev pub value : ℕ → Paper → ℕ
-value i p = getD (p .values) i 0
-
--- the word for a kind, which is the type of a known message and 0 of an Unknown
-abbrev pub wordFor : ℕ → List ℕ
-wordFor kind =
-    cond (eqb kind 1) (ascii "unreach")
-    (cond (eqb kind 2) (ascii "toobig")
-    (cond (eqb kind 3) (ascii "exceeded")
-    (cond (eqb kind 4) (ascii "param")
-    (cond (eqb kind 128) (ascii "echoreq")
-    (cond (eqb kind 129) (ascii "echorep")
-    (cond (eqb kind 133) (ascii "rs")
-    (cond (eqb kind 134) (ascii "ra")
-    (cond (eqb kind 135) (ascii "ns")
-    (cond (eqb kind 136) (ascii "na")
-    (cond (eqb kind 137) (ascii "redirect") (ascii "unknown")))))))))))
+use Rattle.lines.specs.Line.{wordFor, okWord}
+use Rattle.lines.specs.Text.{recordLine, headLine, optLine, endLine, refusedAtLine, refusedLine}
 
 -- 0 of a packet that is received, else the reason
 abbrev pub recvOf : Paper → ℕ

@@ -40,7 +40,3 @@ piecesText n place kept (p ∷ ps) =
     let after = n + length (c .records) in
     recordsText n (c .records)
     ++ cond (settled (c .answer)) (lastText after c) (piecesText after (c .place) (c .rest) ps)
-
-abbrev pub concat : List (List ℕ) → List ℕ
-concat [] = []
-concat (p ∷ ps) = p ++ concat ps

@@ -1,19 +1,16 @@
 // The text of one record, written into a lent buffer: its place, what its packet is, and the options of a Neighbor Discovery message.
 ghost use mathlib.Core.Path.{_≡_};
 ghost use Prim.Native.Nat.{_+_, _*_, _≤_};
-ghost use lib.ListN.{length, getD};
+ghost use lib.ListN.{length};
 ghost use Rattle.output.specs.Output.{writtenTold, roomFor, leaves, Wrote};
 ghost use Rattle.capture.specs.Record.{recorded};
-ghost use Rattle.icmpv6_type.specs.Value.{typeTold};
 ghost use Rattle.receive.specs.Receive.{receiveOf};
 ghost use Rattle.ndp_options.specs.Walk.{walk};
-ghost use Rattle.lines.specs.Line.{text, wordOf};
-ghost use Rattle.listing.specs.Packet.{wordFor, recvOf, walkText, optionsText, packetText, recordText};
+ghost use Rattle.lines.specs.Line.{text};
+ghost use Rattle.listing.specs.Packet.{recvOf, walkText, optionsText, packetText, recordText};
 use icmpv6::icmpv6_header::HeaderRead;
 use icmpv6::icmpv6_header::Icmpv6Header;
-use icmpv6_type::Icmpv6Type;
 use lines::Line;
-use lines::Word;
 use ndp_options::Cursor;
 use ndp_options::Step;
 use output::Written;
@@ -108,10 +105,9 @@ fn put_packet(
         ),
         HeaderRead::Header(header) => {
             let value = header.icmp_type;
-            let shown = shown_of(value);
-            let word = shown.word;
+            let kind = value.kind_u8();
             let line = Line::Head {
-                word,
+                kind,
                 code: packet[1],
                 sum: header.checksum,
                 ok: checksum::validates(packet, source, destination),
@@ -119,74 +115,8 @@ fn put_packet(
                 recv: reason_of(packet, hop_limit, source, destination),
             };
             let next = put_line(out, at, line);
-            let kind = shown.kind;
             put_options(out, next, kind, packet)
         }
-    }
-}
-
-// A value's word, and its kind: the type of a known message, 0 of an Unknown.
-struct Shown {
-    word: Word,
-    kind: u8,
-}
-
-fn shown_of(value: Icmpv6Type) -> Shown
-    ensures { λ r. ⌜ (wordOf (r .word) ≡ wordFor (getD (typeTold value) 0 0)) × (r .kind ≡ getD (typeTold value) 0 0) ⌝ }
-{
-    match value {
-        Icmpv6Type::Unknown {
-            type_u8: _,
-            code_u8: _,
-            bytes5to8: _,
-        } => Shown {
-            word: Word::Unknown,
-            kind: 0,
-        },
-        Icmpv6Type::DestinationUnreachable(_) => Shown {
-            word: Word::Unreach,
-            kind: 1,
-        },
-        Icmpv6Type::PacketTooBig { mtu: _ } => Shown {
-            word: Word::TooBig,
-            kind: 2,
-        },
-        Icmpv6Type::TimeExceeded(_) => Shown {
-            word: Word::Exceeded,
-            kind: 3,
-        },
-        Icmpv6Type::ParameterProblem(_) => Shown {
-            word: Word::Param,
-            kind: 4,
-        },
-        Icmpv6Type::EchoRequest(_) => Shown {
-            word: Word::EchoReq,
-            kind: 128,
-        },
-        Icmpv6Type::EchoReply(_) => Shown {
-            word: Word::EchoRep,
-            kind: 129,
-        },
-        Icmpv6Type::RouterSolicitation => Shown {
-            word: Word::Rs,
-            kind: 133,
-        },
-        Icmpv6Type::RouterAdvertisement(_) => Shown {
-            word: Word::Ra,
-            kind: 134,
-        },
-        Icmpv6Type::NeighborSolicitation => Shown {
-            word: Word::Ns,
-            kind: 135,
-        },
-        Icmpv6Type::NeighborAdvertisement(_) => Shown {
-            word: Word::Na,
-            kind: 136,
-        },
-        Icmpv6Type::Redirect => Shown {
-            word: Word::Redirect,
-            kind: 137,
-        },
     }
 }
 

@@ -39,7 +39,3 @@ table =
     ∷ part 1 2 (1 ∷ 1 ∷ 2 ∷ 0 ∷ 0 ∷ 0 ∷ 0 ∷ 1 ∷ []) (2 ∷ 0 ∷ 0 ∷ 0 ∷ 0 ∷ 1 ∷ [])
     ∷ sized 2 (1 ∷ 1 ∷ 2 ∷ 0 ∷ 0 ∷ 0 ∷ 0 ∷ 1 ∷ []) (refuses 8 (2 ∷ 1 ∷ 1 ∷ 1 ∷ []))
     ∷ []
-
-abbrev pub All : List Case → Type 0
-All [] = Unit
-All (c ∷ cs) = Claim c × All cs

@@ -10,11 +10,12 @@ use native.Mathlib.Omega.{arith}
 use native.Mathlib.Decide.{decLe}
 use lib.ListN.{length, drop, drop-of-length-le, length-drop}
 use lib.Seq.{drop-length}
+use Rattle.paper.specs.Each.{Each}
 use Rattle.paper.specs.Paper.{Paper}
 use Rattle.refusal.specs.declared.Refusal.{Refusal}
 use Rattle.ndp_walk.specs.Walk.{Item, Clean, RefusedAt, then, shift}
 use Rattle.ndp_walk.specs.Step.{ended}
-use Rattle.ndp_walk.specs.Laws.{Touch, endPlace, total, Each, bytesIn, Of, Whole, concat, placed, missing, joined}
+use Rattle.ndp_walk.specs.Laws.{Touch, endPlace, total, bytesIn, Of, Whole, concat, placed, missing, joined}
 use Rattle.ndp_walk.proofs.Judging.{known, over}
 use Rattle.ndp_walk.proofs.Steps.{beyond, within}
 use Rattle.ndp_walk.proofs.Laws as every

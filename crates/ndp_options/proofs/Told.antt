@@ -15,7 +15,7 @@ use Rattle.ndp_options.specs.declared.NdpOptionKind.the-variants.{Unknow
 use Rattle.ndp_options.specs.declared.Step.{Step}
 use Rattle.ndp_options.specs.declared.Step.the-variants.{Handed, End, Refused, Stopped}
 
-abbrev kindBack : ℕ → NdpOptionKind
+abbrev pub kindBack : ℕ → NdpOptionKind
 kindBack k =
     cond (eqb k 0) Unknown
     (cond (eqb k 1) SourceLinkLayerAddress
@@ -24,7 +24,7 @@ kindBack k =
     (cond (eqb k 4) RedirectedHeader
     Mtu))))
 
-kind-back : (k : NdpOptionKind) → kindBack (kindNumber k) ≡ k
+pub kind-back : (k : NdpOptionKind) → kindBack (kindNumber k) ≡ k
 kind-back Unknown = refl
 kind-back SourceLinkLayerAddress = refl
 kind-back TargetLinkLayerAddress = refl

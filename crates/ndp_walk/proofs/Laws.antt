@@ -8,11 +8,12 @@ use native.Mathlib.Nat.{zero-add}
 use native.Mathlib.Omega.{arith}
 use lib.ListN.{length, getD, take, drop, length-append, length-drop, List·getD-append}
 use lib.Seq.{length-take-le, drop-length, drop-append-le, take-append-le, take-at, drop-at}
+use Rattle.paper.specs.Each.{Each}
 use Rattle.paper.specs.Paper.{Paper}
 use Rattle.ndp_option_header.specs.Header.{bytesOf}
 use Rattle.ndp_walk.specs.Judge.{Rule, Fits, Bad, Good, judge, ruled}
 use Rattle.ndp_walk.specs.Walk.{Item, Ending, Clean, RefusedAt, Walk, then, walk, walkFrom, shift}
-use Rattle.ndp_walk.specs.Laws.{Touch, endPlace, total, Each, bytesIn, Of, kindIn, Whole, concat, placed, missing, joinedBy, joined}
+use Rattle.ndp_walk.specs.Laws.{Touch, endPlace, total, bytesIn, Of, kindIn, Whole, concat, placed, missing, joinedBy, joined}
 use Rattle.ndp_walk.proofs.Judging.{at-end, settled, longer, known, whole, over as nothing}
 use Rattle.ndp_walk.proofs.Walking.{walk-over, walk-bad, walk-good, Stop, over, bad, along, walked, shifted}
 use Rattle.ndp_walk.proofs.Paths.{Rest, touch-total, path-touch, path-count, path-append, path-rest, path-own, path-bytes, end-place}

@@ -7,10 +7,11 @@ use native.Mathlib.Nat.{add-zero, add-assoc}
 use native.Mathlib.Omega.{arith}
 use lib.ListN.{length, getD, take, drop, length-drop, take-append-drop}
 use lib.Seq.{getD-drop, drop-drop, drop-append-le, take-append-le}
+use Rattle.paper.specs.Each.{Each}
 use Rattle.ndp_option_header.specs.Header.{bytesOf}
 use Rattle.ndp_walk.specs.Judge.{Rule}
 use Rattle.ndp_walk.specs.Walk.{Item, Ending, Clean}
-use Rattle.ndp_walk.specs.Laws.{Touch, endPlace, total, Each, bytesIn, Of, concat}
+use Rattle.ndp_walk.specs.Laws.{Touch, endPlace, total, bytesIn, Of, concat}
 use Rattle.ndp_walk.proofs.Judging.{fitting, at-end, longer}
 use Rattle.ndp_walk.proofs.Walking.{Path, here, past, Stop, over, bad}
 

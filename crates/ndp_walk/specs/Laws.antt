@@ -26,10 +26,6 @@ abbrev pub total : List Item → ℕ
 total [] = 0
 total (i ∷ is) = i .len + total is
 
-abbrev pub Each : {A : Type 0} → (A → Type 0) → List A → Type 0
-Each P [] = Unit {0}
-Each P (x ∷ xs) = P x × Each P xs
-
 -- an option's own bytes
 abbrev pub bytesIn : List ℕ → Item → List ℕ
 bytesIn s i = take (i .len) (drop (i .at) s)

@@ -51,7 +51,3 @@ table =
     ∷ reads (option 4 4 64 192) (told (refuses 8 (3 ∷ 4 ∷ 4 ∷ 4 ∷ [])) nothing)
     ∷ reads (option 3 5 64 192) (told (refuses 8 (3 ∷ 3 ∷ 4 ∷ 5 ∷ [])) nothing)
     ∷ []
-
-abbrev pub All : List Case → Type 0
-All [] = Unit
-All (c ∷ cs) = Claim c × All cs

@@ -1,9 +1,9 @@
 -- What it is for bytes to begin with a prefix: their first bytes are the prefix.
 -- Assumes nothing.
-use Prim.Native.Nat.{ℕ, _+_, _<_}
+use Prim.Native.Nat.{ℕ, suc, _+_, _<_, _≤_}
 use mathlib.Core.Path.{_≡_, refl}
 use mathlib.Core.Bool.{Bool, true, false, false≢true, _&&_}
-use mathlib.Core.List.{List, [], _∷_}
+use mathlib.Core.List.{List, [], _∷_, _++_}
 use native.Mathlib.Numerals.{add-one}
 use native.Mathlib.Omega.{arith}
 use lib.Dec.{eqb}
@@ -44,3 +44,13 @@ pub begins-itself : (p : List ℕ) → begins p p ≡ true
 unfolding begins
 begins-itself [] = refl
 begins-itself (a ∷ p) = simp (eq-eqb a a refl, begins-itself p)
+
+-- bytes that follow change nothing, once there are as many as the prefix has
+pub begins-more : (p s t : List ℕ) → length p ≤ length s → begins p (s ++ t) ≡ begins p s
+unfolding begins
+begins-more [] s t h = refl
+begins-more (a ∷ p) [] t h = absurd (none (length p) h)
+  where
+    none : (n : ℕ) → suc n ≤ 0 → ⊥
+    none n h = omega arith
+begins-more (a ∷ p) (x ∷ s) t h = rw (begins-more p s t (omega arith))

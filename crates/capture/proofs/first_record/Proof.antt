@@ -8,8 +8,9 @@ use mathlib.Core.Path.{_≡_, sym, _∙_, ap}
 use lib.Seq.{length-take-le}
 use lib.ListN.{length}
 use borrow.Author.Tests.{not-true, not-false}
-use Rattle.capture.specs.Record.{placed, mark, begins}
-use Rattle.capture.proofs.Judged.{same-begins, none-left, one-left, not-marked, head-cut, too-long, body-cut, whole}
+use Rattle.wire.specs.Prefix.{begins}
+use Rattle.capture.specs.Record.{placed, mark}
+use Rattle.capture.proofs.Judged.{none-left, one-left, not-marked, head-cut, too-long, body-cut, whole}
 use borrow.Author.Needs.{needs}
 use Rattle.capture.proofs.first_record.Statement.{statement}
 use Rattle.capture.proofs.first_record.Tie as tie
@@ -24,42 +25,32 @@ returns-2 c =
     let a = c .before .before .before .args in
     ap (placed (a .at)) (sym (one-left (now (a .left)) (a .place) (omega arith) (c .if2 .taken)))
 
-slice-aggregate-same : tie.Need-slice-aggregate-same
-slice-aggregate-same c = sym (length-take-le _ (now (c .before .before .before .before .args .left)) (omega arith))
+slice-aggregate-begins-with : tie.Need-slice-aggregate-begins-with
+slice-aggregate-begins-with c = search needs
 
-slice-aggregate-same-2 : tie.Need-slice-aggregate-same-2
-slice-aggregate-same-2 c = search needs
-
-same-requires : tie.Need-same-requires
-same-requires c κs = search needs
-
--- the comparison is the test of the mark
-abbrev Marks : tie.After-same → Type 0
-Marks c = begins mark (now (c .before .before .before .before .before .before .args .left)) ≡ c .same .result
-
-marks : (c : tie.After-same) → Marks c
-marks c = same-begins mark (now (c .before .before .before .before .before .before .args .left)) _ (c .same .ensures .0) (c .same .ensures .1)
+begins-with-requires : tie.Need-begins-with-requires
+begins-with-requires c κs = search needs
 
 -- two bytes at least, and the mark
 abbrev Good : tie.Else3 → Type 0
 Good c =
-    let s = now (c .before .before .before .before .before .before .before .args .left) in
+    let s = now (c .before .before .before .before .before .before .args .left) in
     (2 ≤ length s) × (begins mark s ≡ true)
 
 good : (c : tie.Else3) → Good c
-good c = (c .before .before .before .before .if2 .left, marks (c .before) ∙ not-false _ (c .if3 .left))
+good c = (c .before .before .before .if2 .left, sym (c .before .begins-with .ensures) ∙ not-false _ (c .if3 .left))
 
 returns-3 : tie.Need-returns-3
 returns-3 c =
     let w = c .before in
-    let b = w .before .before .before in
+    let b = w .before .before in
     let a = b .before .before .before .args in
-    ap (placed (a .at)) (sym (not-marked (now (a .left)) (a .place) (b .if2 .left) (marks w ∙ not-true _ (c .if3 .taken))))
+    ap (placed (a .at)) (sym (not-marked (now (a .left)) (a .place) (b .if2 .left) (sym (w .begins-with .ensures) ∙ not-true _ (c .if3 .taken))))
 
 returns-4 : tie.Need-returns-4
 returns-4 c =
     let g = c .before in
-    let a = g .before .before .before .before .before .before .before .args in
+    let a = g .before .before .before .before .before .before .args in
     ap (placed (a .at)) (sym (head-cut (now (a .left)) (a .place) (good g .0) (good g .1) (c .if4 .taken)))
 
 shared-slice-read-u16-from-be : tie.Need-shared-slice-read-u16-from-be
@@ -79,7 +70,7 @@ returns-5 c =
     let w = c .before in
     let h = w .before .before .before in
     let g = h .before in
-    let a = g .before .before .before .before .before .before .before .args in
+    let a = g .before .before .before .before .before .before .args in
     rw (w .u16-from-be .ensures) (ap (placed (a .at)) (sym (too-long (now (a .left)) (a .place) (good g .0) (good g .1) (h .if4 .left) (rw (w .u16-from-be .ensures) at (c .if5 .taken)))))
 
 sub-if6 : tie.Need-sub-if6
@@ -91,26 +82,26 @@ returns-6 c =
     let w = i .before in
     let h = w .before .before .before in
     let g = h .before in
-    let a = g .before .before .before .before .before .before .before .args in
+    let a = g .before .before .before .before .before .before .args in
     ap (placed (a .at)) (sym (body-cut (now (a .left)) (a .place) (good g .0) (good g .1) (h .if4 .left) (rw (w .u16-from-be .ensures) at (i .if5 .left)) (rw (w .u16-from-be .ensures) at (c .if6 .taken))))
 
-shared-slice-read-t20 : tie.Need-shared-slice-read-t20
-shared-slice-read-t20 c = search needs
+shared-slice-read-t18 : tie.Need-shared-slice-read-t18
+shared-slice-read-t18 c = search needs
 
 add-t6 : tie.Need-add-t6
 add-t6 c = search needs
 
-add-t22 : tie.Need-add-t22
-add-t22 c = search needs
+add-t20 : tie.Need-add-t20
+add-t20 c = search needs
+
+add-t23 : tie.Need-add-t23
+add-t23 c = search needs
+
+add-t24 : tie.Need-add-t24
+add-t24 c = search needs
 
 add-t25 : tie.Need-add-t25
 add-t25 c = search needs
-
-add-t26 : tie.Need-add-t26
-add-t26 c = search needs
-
-add-t27 : tie.Need-add-t27
-add-t27 c = search needs
 
 returns-7 : tie.Need-returns-7
 returns-7 c =
@@ -119,7 +110,7 @@ returns-7 c =
     let w = i .before in
     let h = w .before .before .before in
     let g = h .before in
-    let a = g .before .before .before .before .before .before .before .args in
+    let a = g .before .before .before .before .before .before .args in
     rw (w .u16-from-be .ensures) (ap (placed (a .at)) (sym (whole (now (a .left)) (a .place) (good g .0) (good g .1) (h .if4 .left) (rw (w .u16-from-be .ensures) at (i .if5 .left)) (rw (w .u16-from-be .ensures) at (k .if6 .left)))))
 
 pub first-record-spec : {M : Type 1} → statement M
@@ -128,9 +119,8 @@ first-record-spec =
     (tie.spec
     returns
     returns-2
-    slice-aggregate-same
-    slice-aggregate-same-2
-    same-requires
+    slice-aggregate-begins-with
+    begins-with-requires
     returns-3
     returns-4
     shared-slice-read-u16-from-be
@@ -140,10 +130,10 @@ first-record-spec =
     returns-5
     sub-if6
     returns-6
-    shared-slice-read-t20
+    shared-slice-read-t18
     add-t6
-    add-t22
+    add-t20
+    add-t23
+    add-t24
     add-t25
-    add-t26
-    add-t27
     returns-7)

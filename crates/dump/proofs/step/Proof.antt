@@ -11,7 +11,8 @@ use borrow.Author.Tests.{not-true, not-false}
 use Rattle.lines.specs.Text.{recordsLine}
 use Rattle.refusal.specs.Paper.{refusal}
 use Rattle.capture.specs.Record.{recordOf}
-use Rattle.capture.proofs.Calls.{FoundAt, found-at, ended-at, refused-at}
+use Rattle.capture.specs.Capture.{FoundAt}
+use Rattle.capture.proofs.Calls.{found-at, ended-at, refused-at}
 use Rattle.dump.proofs.Steps.{plain, waits, puts-record, puts-last, few-left, stops-either, ends-here}
 use borrow.Author.Needs.{needs}
 use Rattle.dump.proofs.step.Statement.{statement}

@@ -30,8 +30,8 @@ put-line-requires c κs = search needs
 enum-known-header : tie.Need-enum-known-header
 enum-known-header c = search needs
 
-shown-of-requires : tie.Need-shown-of-requires
-shown-of-requires c κs = search needs
+kind-u8-requires : tie.Need-kind-u8-requires
+kind-u8-requires c κs = search needs
 
 -- what the header says of the bytes
 abbrev Decodes : tie.After-header → Type 0
@@ -40,8 +40,8 @@ Decodes c = decodeOf (now (c .before .before .before .before .before .args .pack
 decodes : (c : tie.After-header) → Decodes c
 decodes c = sym (c .before .before .from-slice .ensures) ∙ ap readTold (c .header .given .1)
 
-shared-slice-read-t22 : tie.Need-shared-slice-read-t22
-shared-slice-read-t22 c =
+shared-slice-read-t20 : tie.Need-shared-slice-read-t20
+shared-slice-read-t20 c =
     let h = c .before .before .before in
     omega (arith, has-head _ _ (decodes h))
 
@@ -82,14 +82,14 @@ Heads c =
     let s = v .before .before in
     let h = s .before .before in
     let a = h .before .before .before .before .before .args in
-    headText (a .hop-limit) (now (a .source)) (now (a .destination)) (now (a .packet)) ≡ text (Head (s .shown-of .result .word) (getD (now (a .packet)) 1 0) (h .header .given .0 .0 .checksum) (v .validates .result) (length (now (a .packet))) (c .reason-of .result))
+    headText (a .hop-limit) (now (a .source)) (now (a .destination)) (now (a .packet)) ≡ text (Head (s .kind-u8 .result) (getD (now (a .packet)) 1 0) (h .header .given .0 .0 .checksum) (v .validates .result) (length (now (a .packet))) (c .reason-of .result))
 
 heads : (c : tie.After-reason-of) → Heads c
 unfolding headText
 heads c =
     let v = c .before in
     let s = v .before .before in
-    simp (decodes (s .before .before), s .shown-of .ensures .0, v .validates .ensures, c .reason-of .ensures)
+    simp (decodes (s .before .before), s .kind-u8 .ensures, v .validates .ensures, c .reason-of .ensures)
 
 returns-2 : tie.Need-returns-2
 returns-2 c =
@@ -100,7 +100,7 @@ returns-2 c =
     let h = s .before .before in
     let a = h .before .before .before .before .before .args in
     let e = decodes h in
-    let kind : kindOf (now (a .packet)) ≡ s .shown-of .result .kind = rw e (sym (s .shown-of .ensures .1)) in
+    let kind : kindOf (now (a .packet)) ≡ s .kind-u8 .result = rw e (sym (s .kind-u8 .ensures)) in
     (rw (decoded (a .hop-limit) (now (a .source)) (now (a .destination)) (now (a .packet)) _ e, heads r, kind) (l .put-line2 .ensures .0 then o .put-options .ensures .0), omega (arith, l .put-line2 .ensures .1, o .put-options .ensures .1))
 
 pub put-packet-spec : {M : Type 1} → statement M
@@ -112,8 +112,8 @@ put-packet-spec =
     number-requires
     put-line-requires
     enum-known-header
-    shown-of-requires
-    shared-slice-read-t22
+    kind-u8-requires
+    shared-slice-read-t20
     validates-requires
     reason-of-requires
     put-line-requires-2
