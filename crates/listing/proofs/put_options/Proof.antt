@@ -3,8 +3,7 @@
 use denote.Ref.{now}
 use Prim.Native.Nat.{_+_, _-_}
 use native.Mathlib.Omega.{arith}
-use mathlib.Core.Path.{_≡_, refl, ap}
-use mathlib.Core.List.{[]}
+use mathlib.Core.Path.{_≡_, ap}
 use lib.Seq.{take-all}
 use lib.ListN.{length, take, drop, length-drop}
 use Rattle.output.proofs.Wrote.{nothing}
