@@ -1,6 +1,6 @@
 -- Bytes put one after the other are put at once. A place beyond the buffer counts as its end, so no law asks that they fit.
 -- Assumes nothing.
-use Prim.Native.Nat.{ℕ, suc, _+_, _-_, _<_, _≤_}
+use Prim.Native.Nat.{ℕ, suc, _+_, _<_, _≤_}
 use mathlib.Core.Path.{_≡_, refl, sym, ap, _∙_}
 use mathlib.Core.Bool.{Bool, true, false}
 use mathlib.Core.List.{List, [], _∷_, _++_, append-assoc, append-nil}
@@ -8,8 +8,8 @@ use native.Mathlib.Omega.{arith}
 use native.Mathlib.Nat.{add-assoc, zero-add, add-zero}
 use native.Mathlib.Numerals.{add-one}
 use lib.Dec.{leb}
-use lib.ListN.{length, take, drop, take-append-drop, set, length-append, drop-of-length-le, length-drop}
-use lib.Seq.{take-length, length-take-le, take-all, take-at, drop-at, drop-drop, set-split, append-snoc}
+use lib.ListN.{length, take, drop, take-append-drop, set, length-append, drop-of-length-le}
+use lib.Seq.{length-take-le, take-all, take-at, drop-at, drop-drop, set-split, append-snoc}
 use borrow.Author.Tests.{leb-true, leb-false}
 use Rattle.output.specs.Output.{over, Wrote}
 

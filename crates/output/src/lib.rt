@@ -18,7 +18,7 @@ pub fn room(out: &[u8], at: usize) -> usize
     if at < out.len() { out.len() - at } else { 0 }
 }
 
-// Bytes over those of a buffer from a place on. (No bytes fit at any place, also beyond the buffer.)
+// Bytes over those of a buffer from a place on. (An empty slice fits anywhere, also beyond the buffer.)
 pub fn put(out: &mut [u8], at: usize, bytes: &[u8]) -> Written
     ensures answers { λ r. ⌜ writtenTold r ≡ roomFor (length (now (bytes .entry))) (now (out .entry)) at ⌝ }
     ensures lent { λ r. ⌜ now (out .exit) ≡ leaves (roomFor (length (now (bytes .entry))) (now (out .entry)) at) (now (out .entry)) at (now (bytes .entry)) ⌝ }

@@ -3,7 +3,7 @@
 use Rattle.output.proofs.Fitting.{fits, wrote}
 use Rattle.output.proofs.Wrote.{_then_}
 use Rattle.writer.proofs.Laws.{within, refused-write, refused-leaves, narrow, fitting}
-use Prim.Native.Nat.{ℕ, _+_, _-_, _≤_}
+use Prim.Native.Nat.{ℕ, _+_, _≤_}
 use mathlib.Core.Path.{_≡_, refl, sym, ap, _∙_}
 use mathlib.Core.List.{List, [], _++_}
 use lib.ListN.{length}
@@ -70,8 +70,8 @@ returns-3 c = let second = c .before .before in
     let e = fitting (a .icmp-type) payload out (passed (h .before .before)) enough in
     let seam : length (h .sealed-head .result) ≡ 8 = search needs in
     let w = wrote out 0 (h .sealed-head .result) (first .put .ensures .1) (omega arith) 8 (omega arith) in
-    let v = w then wrote _ 8 payload (second .put2 .ensures .1) (omega (arith, enough, first .put .kept)) (8 + length payload) refl in (
-      second .put2 .ensures .0 ∙ fits (length payload) _ 8 (omega (arith, enough, first .put .kept)) ∙ sym e,
+    let v = w then wrote _ 8 payload (second .put2 .ensures .1) (omega arith) (8 + length payload) refl in (
+      second .put2 .ensures .0 ∙ fits (length payload) _ 8 (omega arith) ∙ sym e,
       rw e (v .holds ∙ ap (λ (l : List ℕ). over out 0 (l ++ payload)) (h .sealed-head .ensures)),
     )
 

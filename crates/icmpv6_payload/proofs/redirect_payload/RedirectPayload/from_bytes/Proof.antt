@@ -1,6 +1,6 @@
 -- `from_bytes` meets its contract: each half fills the array that it is put into.
 -- Assumes nothing.
-use mathlib.Core.Path.{_≡_, sym, _∙_}
+use mathlib.Core.Path.{_≡_, sym}
 use lib.Seq.{take-all, length-take-le}
 use native.Mathlib.Omega.{arith}
 use lib.ListN.{length, take, drop, length-drop}
