@@ -3,7 +3,7 @@
 use Prim.Native.Nat.{ℕ}
 use mathlib.Core.Bool.{cond}
 use mathlib.Core.Path.{_≡_, refl, ap}
-use mathlib.Core.List.{List, [], _∷_}
+use mathlib.Core.List.{List, _∷_}
 use lib.Dec.{eqb}
 use Rattle.paper.specs.Paper.{refuses}
 use Rattle.refusal.specs.declared.Refusal.{Refusal}
@@ -24,10 +24,9 @@ use Rattle.receive.specs.declared.Received.the-variants.{Accepted, Refused as N
 use Rattle.output.specs.Output.{writtenTold}
 use Rattle.output.specs.declared.Written.{Written as WrittenAnswer}
 use Rattle.output.specs.declared.Written.the-variants.{To, Refused as NotWritten}
-use Rattle.ndp_options.specs.Told.{kindNumber, stepTold}
+use Rattle.ndp_options.specs.Told.{stepTold}
 use Rattle.ndp_options.specs.declared.Step.{Step}
 use Rattle.ndp_options.specs.declared.Step.the-variants.{Handed, End, Refused as StepRefused, Stopped}
-use Rattle.ndp_options.specs.declared.NdpOptionKind.{NdpOptionKind}
 use Rattle.ndp_options.proofs.Told.{kindBack, kind-back}
 use Rattle.c_api.specs.Answer.{UNKNOWN, VALID, INVALID, OPTION, END, STOPPED, RECEIVED, WRITTEN}
 use Rattle.c_api.specs.declared.head.Head.{Head}

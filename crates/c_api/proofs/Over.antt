@@ -1,16 +1,16 @@
 -- A walk that is over stays over: at the place that END answers it is END again, at the one that a refusal or STOPPED answers it is STOPPED.
 -- END and STOPPED answer the place that they were asked at; a refusal answers one beyond the bytes.
 -- Assumes nothing.
-use Prim.Native.Nat.{ℕ, _+_, _<_}
+use Prim.Native.Nat.{ℕ, _+_}
 use mathlib.Core.Bool.{Bool, true, false, cond}
-use mathlib.Core.Path.{_≡_, refl, sym, _∙_}
+use mathlib.Core.Path.{_≡_, refl}
 use mathlib.Core.List.{List}
 use native.Mathlib.Omega.{arith}
 use lib.Dec.{eqb, ltb}
 use lib.ListN.{length, drop}
 use borrow.Author.Tests.{ltb-true, ltb-false, ne-eqb}
 use Rattle.ndp_walk.specs.Judge.{Judgement, Over, Bad, Good, judge}
-use Rattle.ndp_walk.specs.Step.{stopped, answer}
+use Rattle.ndp_walk.specs.Step.{answer}
 use Rattle.ndp_walk.proofs.Judging.{refusal-numbered}
 use Rattle.ndp_walk.proofs.Steps.{beyond, within}
 use Rattle.ndp_options.specs.Rule.{rule}

@@ -5,7 +5,6 @@ use mathlib.Core.Bool.{cond}
 use mathlib.Core.List.{List}
 use lib.Dec.{eqb}
 use lib.ListN.{getD}
-use Rattle.paper.specs.Paper.{Paper}
 use Rattle.ndp_walk.specs.Step.{Told}
 use Rattle.refusal.specs.Paper.{slots}
 use Rattle.c_api.specs.Answer.{REFUSED, OPTION, END, STOPPED, none}

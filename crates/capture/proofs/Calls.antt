@@ -1,12 +1,12 @@
 -- What each answer of `next_record` says of the bytes, for callers: each law takes the call's promise and what the arm of the match has.
 -- Assumes nothing.
-use Prim.Native.Nat.{ℕ, _+_, _≤_}
+use Prim.Native.Nat.{ℕ, _≤_}
 use mathlib.Core.Path.{_≡_, refl, sym, ap, _∙_}
 use mathlib.Core.Bool.{Bool, true, false, cond}
 use mathlib.Core.List.{List, [], _∷_}
 use native.Mathlib.Omega.{arith}
 use lib.Dec.{ltb}
-use lib.ListN.{length, getD, drop, length-drop}
+use lib.ListN.{length, drop, length-drop}
 use borrow.Author.Tests.{ltb-false, le-ltb, eqb-false}
 use Rattle.paper.specs.Paper.{Paper, refuses, gives, value}
 use Rattle.refusal.specs.declared.Refusal.{Refusal}
@@ -16,8 +16,8 @@ use Rattle.capture.specs.declared.Record.{Record}
 use Rattle.capture.specs.declared.Next.{Next}
 use Rattle.capture.specs.declared.Next.the-variants.{Found, End, Refused}
 use Rattle.capture.specs.Paper.{nextPaper}
-use Rattle.capture.specs.Record.{hopLimit, packetLen, recordOf, isRecord, placed, placeIn, nextOf}
-use Rattle.capture.specs.Capture.{recordLen, FoundAt}
+use Rattle.capture.specs.Record.{recordOf, isRecord, placed, placeIn, nextOf}
+use Rattle.capture.specs.Capture.{FoundAt}
 use Rattle.capture.proofs.Seen.{Seen, ended, cut, unmarked, long, found, seen}
 
 -- an answer with no number says so of the bytes from the place on

@@ -1,7 +1,7 @@
 -- What a reader of captures may count on: a record lies within the bytes, a record that is cut off is shorter than the longest one,
 -- and bytes that follow change nothing but the end and 14. Each is read off the cases at a place.
 -- Assumes nothing.
-use Prim.Native.Nat.{ℕ, suc, _+_, _-_, _≤_}
+use Prim.Native.Nat.{ℕ, _+_, _≤_}
 use mathlib.Core.Path.{_≡_, refl, sym, _∙_}
 use mathlib.Core.Bool.{true, false, false≢true}
 use mathlib.Core.List.{List, [], _∷_, _++_}

@@ -2,18 +2,17 @@
 -- whatever payload follows it. From the same of the type value.
 -- Assumes nothing.
 use Prim.Native.Nat.{ℕ, _+_, _/_, _%_, _<_, _≤_}
-use mathlib.Core.Bool.{true, false}
-use mathlib.Core.Path.{_≡_, refl, sym, ap, _∙_}
-use mathlib.Core.List.{List, [], _∷_, _++_}
+use mathlib.Core.Bool.{false}
+use mathlib.Core.Path.{_≡_, sym, ap, _∙_}
+use mathlib.Core.List.{List, _∷_, _++_}
 use native.Mathlib.Omega.{arith}
-use lib.ListN.{length, getD, drop, length-append}
+use lib.ListN.{length, getD, drop}
 use Rattle.paper.specs.Paper.{Paper, gives}
-use Rattle.wire.specs.Wire.{bytes16, word16}
+use Rattle.wire.specs.Wire.{word16}
 use Rattle.wire.proofs.Laws.{join16, high16, low16}
 use Rattle.packet_length.specs.Length.{limit}
 use Rattle.packet_length.proofs.Laws.{sized-fits}
-use Rattle.icmpv6_type.specs.declared.Icmpv6Type.{Icmpv6Type}
-use Rattle.icmpv6_type.specs.Value.{typeOf, typeTold, typeNumber, codeNumber, fieldBytes}
+use Rattle.icmpv6_type.specs.Value.{typeOf, typeNumber, codeNumber, fieldBytes}
 use Rattle.icmpv6_type.specs.Reserved.{cleared, Fits, misnamed}
 use Rattle.icmpv6_type.proofs.Laws.{four-bytes}
 use Rattle.icmpv6_type.proofs.RoundTrip as value

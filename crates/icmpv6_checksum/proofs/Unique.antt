@@ -1,6 +1,5 @@
 -- Each public call's promise leaves one answer, and one content of the header that is lent.
 -- Assumes nothing.
-use Prim.Native.Nat.{ℕ}
 use mathlib.Core.Path.{refl, sym, ap, _∙_}
 use Rattle.paper.specs.Only.{Only}
 use Rattle.paper.proofs.Facts.{one}

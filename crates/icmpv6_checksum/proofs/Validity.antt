@@ -15,7 +15,6 @@ use Rattle.icmpv6.proofs.Paper.{header-lossless}
 use Rattle.checksum.specs.Running.{Bytes}
 use Rattle.checksum.specs.Icmpv6.{checksumOf, payloadLimit, computedOf, valid, verdictOf}
 use Rattle.checksum.proofs.Validity as sums
-use Rattle.icmpv6_checksum.specs.declared.HeaderMade.{HeaderMade}
 use Rattle.icmpv6_checksum.specs.declared.HeaderMade.the-variants.{Header}
 use Rattle.icmpv6_checksum.specs.Header.{headOf, calcOf, withOf, made, leaves}
 

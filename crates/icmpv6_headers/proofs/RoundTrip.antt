@@ -1,7 +1,7 @@
 -- A header written is read back, and four bytes read are written back without their reserved bits: words and flags go both ways.
 -- Assumes nothing.
 use Prim.Native.Nat.{ℕ, _<_}
-use mathlib.Core.Path.{_≡_, refl, ap, _∙_}
+use mathlib.Core.Path.{_≡_, ap, _∙_}
 use mathlib.Core.List.{List, [], _∷_, _++_}
 use Rattle.wire.specs.Wire.{word16, bytes16}
 use Rattle.wire.specs.Bits.{clear}

@@ -1,9 +1,8 @@
 -- Each fixed part is read back as it was written, and written back as it was read. The target of a neighbor message is its own bytes.
 -- Assumes nothing.
 use Prim.Native.Nat.{ℕ, _<_}
-use mathlib.Core.Path.{_≡_, sym, ap, _∙_}
+use mathlib.Core.Path.{_≡_, ap, _∙_}
 use mathlib.Core.List.{List, [], _∷_, _++_}
-use native.Mathlib.Omega.{arith}
 use lib.ListN.{length, getD, take, drop, take-append-drop}
 use lib.Seq.{take-at, drop-at}
 use Rattle.wire.specs.Wire.{bytes32}

@@ -1,7 +1,7 @@
 -- The two dispatches: on a value that was decoded they agree, since its kind is the type where the table has the pair; on an Unknown that names
 -- a known pair they differ.
 -- Assumes nothing.
-use Prim.Native.Nat.{ℕ, _+_, _<_, _≤_}
+use Prim.Native.Nat.{ℕ, _+_, _≤_}
 use mathlib.Core.Bool.{Bool, true, false, cond}
 use mathlib.Core.Path.{_≡_, refl, sym, ap, _∙_}
 use mathlib.Core.List.{List, [], _∷_, _++_}
@@ -19,7 +19,7 @@ use Rattle.icmpv6_type.specs.declared.Icmpv6Type.the-variants.{Unknown}
 use Rattle.icmpv6_type.specs.Value.{typeTold, typeOf, kindNumber, fieldsOf, wordOf}
 use Rattle.icmpv6.specs.declared.icmpv6_header.Icmpv6Header.{Icmpv6Header}
 use Rattle.icmpv6.specs.Head.{decodeOf, encodeOf, headerTold, fieldsAt}
-use Rattle.icmpv6_payload_slice.specs.Dispatch.{kindOf, payloadOf, byValue, kindAt, byBytes}
+use Rattle.icmpv6_payload_slice.specs.Dispatch.{kindOf, payloadOf, byValue, byBytes}
 use Rattle.icmpv6_payload_slice.proofs.Laws.{whole, known-pair}
 
 -- the kind of a value that was read

@@ -12,7 +12,6 @@ use Rattle.refusal.proofs.Paper.{refusalOf, refusal-back, refusal-numbered}
 use Rattle.icmpv6_payload.proofs.Paper.{timersFrom}
 use Rattle.icmpv6_payload_slice.specs.declared.Icmpv6PayloadKind.{Icmpv6PayloadKind}
 use Rattle.icmpv6_payload_slice.specs.declared.Icmpv6PayloadKind.the-variants.{Raw, DestinationUnreachable, PacketTooBig, TimeExceeded, ParameterProblem, EchoRequest, EchoReply, RouterSolicitation, RouterAdvertisement, NeighborSolicitation, NeighborAdvertisement, Redirect}
-use Rattle.icmpv6_payload_slice.specs.declared.Icmpv6PayloadSlice.{Icmpv6PayloadSlice}
 use Rattle.icmpv6_payload_slice.specs.declared.PayloadRead.{PayloadRead}
 use Rattle.icmpv6_payload_slice.specs.declared.PayloadRead.the-variants.{Payload, Refused}
 use Rattle.icmpv6_payload_slice.specs.Dispatch.{kindTold, readTold}

@@ -3,13 +3,12 @@
 use Prim.Native.Nat.{ℕ}
 use mathlib.Core.Bool.{cond}
 use mathlib.Core.Path.{_≡_, refl, ap}
-use mathlib.Core.List.{List, [], _∷_}
+use mathlib.Core.List.{List}
 use lib.Dec.{eqb}
 use lib.ListN.{getD, drop}
 use Rattle.paper.proofs.Lossless.{lossless}
 use Rattle.icmpv6_codes.proofs.Paper.{destOf, dest-back, timeOf, time-back, problemOf, problem-back}
-use Rattle.icmpv6_headers.proofs.Paper.{echoFrom, echo-back, routerFrom, router-back, neighborFrom, neighbor-back}
-use Rattle.icmpv6_type.specs.declared.ParameterProblemHeader.{ParameterProblemHeader}
+use Rattle.icmpv6_headers.proofs.Paper.{echoFrom, routerFrom, router-back, neighborFrom, neighbor-back}
 use Rattle.icmpv6_type.specs.declared.Icmpv6Type.{Icmpv6Type}
 use Rattle.icmpv6_type.specs.declared.Icmpv6Type.the-variants.{Unknown, DestinationUnreachable, PacketTooBig, TimeExceeded, ParameterProblem, EchoRequest, EchoReply, RouterSolicitation, RouterAdvertisement, NeighborSolicitation, NeighborAdvertisement, Redirect}
 use Rattle.icmpv6_type.specs.Value.{typeTold}

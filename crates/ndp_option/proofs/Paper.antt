@@ -1,6 +1,5 @@
 -- The MTU reader's answer loses nothing on paper: it can be taken back.
 -- Assumes nothing.
-use Prim.Native.Nat.{ℕ}
 use mathlib.Core.Bool.{cond}
 use mathlib.Core.Path.{_≡_, refl}
 use lib.Dec.{eqb}

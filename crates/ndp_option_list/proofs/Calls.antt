@@ -6,11 +6,9 @@ use mathlib.Core.Bool.{Bool, true, false}
 use mathlib.Core.List.{List, [], _∷_}
 use native.Mathlib.Omega.{arith}
 use lib.ListN.{length, getD}
-use Rattle.paper.specs.Paper.{gives}
 use Rattle.refusal.specs.declared.Refusal.{Refusal}
 use Rattle.refusal.specs.Paper.{refusal}
 use Rattle.ndp_walk.specs.Walk.{Clean, RefusedAt}
-use Rattle.ndp_walk.specs.Step.{told}
 use Rattle.ndp_options.specs.Walk.{walk}
 use Rattle.ndp_options.proofs.Steps.{refuses-some}
 use Rattle.ndp_option_list.specs.Whole.{occurs, bit, countOf, occursOf}

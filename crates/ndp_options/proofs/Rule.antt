@@ -1,7 +1,7 @@
 -- Document 01's rule at the head of a rest, from the header that was read there: the rule looks at the type and the length alone.
 -- Assumes nothing.
 use Prim.Native.Nat.{ℕ, _≤_, _<_}
-use mathlib.Core.Path.{_≡_, refl, sym, ap, _∙_}
+use mathlib.Core.Path.{_≡_, sym, _∙_}
 use mathlib.Core.Logic.{_≢_}
 use mathlib.Core.Bool.{Bool, true, false, cond}
 use mathlib.Core.List.{List, [], _∷_}
@@ -14,7 +14,7 @@ use Rattle.paper.specs.Paper.{Paper, refuses}
 use Rattle.ndp_option_header.specs.Header.{bytesOf}
 use Rattle.ndp_option_header.specs.declared.NdpOptionHeader.{NdpOptionHeader}
 use Rattle.ndp_option_header.proofs.Read.{HeaderOf}
-use Rattle.ndp_walk.specs.Judge.{Ruling, Fits, Misfits, Bad, Good, ruled, judge}
+use Rattle.ndp_walk.specs.Judge.{Fits, Misfits, Bad, Good, ruled, judge}
 use Rattle.ndp_walk.specs.Laws.{Numbered}
 use Rattle.ndp_walk.proofs.Judging.{known, empty, cut, whole}
 use Rattle.ndp_options.specs.Rule.{kindOf, askedOf, ruleOf, rule}

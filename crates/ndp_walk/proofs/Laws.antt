@@ -1,6 +1,6 @@
 -- The laws of the walk, for every rule that looks at an option's own bytes alone. They go by the path that a walk takes.
 -- Assumes nothing.
-use Prim.Native.Nat.{ℕ, _+_, _/_, _≤_, _<_}
+use Prim.Native.Nat.{ℕ, _+_, _/_, _≤_}
 use mathlib.Core.Path.{_≡_, refl, sym, _∙_, ap}
 use mathlib.Core.Bool.{Bool, true, false, cond}
 use mathlib.Core.List.{List, [], _∷_, _++_, map, append-nil}
@@ -11,10 +11,10 @@ use lib.Seq.{length-take-le, drop-length, drop-append-le, take-append-le, take-a
 use Rattle.paper.specs.Each.{Each}
 use Rattle.paper.specs.Paper.{Paper}
 use Rattle.ndp_option_header.specs.Header.{bytesOf}
-use Rattle.ndp_walk.specs.Judge.{Rule, Fits, Bad, Good, judge, ruled}
+use Rattle.ndp_walk.specs.Judge.{Rule, Fits, Bad, Good, judge}
 use Rattle.ndp_walk.specs.Walk.{Item, Ending, Clean, RefusedAt, Walk, then, walk, walkFrom, shift}
 use Rattle.ndp_walk.specs.Laws.{Touch, endPlace, total, bytesIn, Of, kindIn, Whole, concat, placed, missing, joinedBy, joined}
-use Rattle.ndp_walk.proofs.Judging.{at-end, settled, longer, known, whole, over as nothing}
+use Rattle.ndp_walk.proofs.Judging.{at-end, longer, known, whole, over as nothing}
 use Rattle.ndp_walk.proofs.Walking.{walk-over, walk-bad, walk-good, Stop, over, bad, along, walked, shifted}
 use Rattle.ndp_walk.proofs.Paths.{Rest, touch-total, path-touch, path-count, path-append, path-rest, path-own, path-bytes, end-place}
 

@@ -1,16 +1,16 @@
 -- What holds along the path of a walk, by induction on it: each option is judged at the head of the rest that it begins.
 -- Assumes nothing.
-use Prim.Native.Nat.{ℕ, _+_, _*_, _≤_, _<_}
+use Prim.Native.Nat.{ℕ, _+_, _*_, _≤_}
 use mathlib.Core.Path.{_≡_, refl, sym, _∙_, ap}
 use mathlib.Core.List.{List, [], _∷_, _++_, map, append-assoc}
 use native.Mathlib.Nat.{add-zero, add-assoc}
 use native.Mathlib.Omega.{arith}
-use lib.ListN.{length, getD, take, drop, length-drop, take-append-drop}
-use lib.Seq.{getD-drop, drop-drop, drop-append-le, take-append-le}
+use lib.ListN.{length, drop, length-drop, take-append-drop}
+use lib.Seq.{getD-drop, drop-drop, drop-append-le}
 use Rattle.paper.specs.Each.{Each}
 use Rattle.ndp_option_header.specs.Header.{bytesOf}
 use Rattle.ndp_walk.specs.Judge.{Rule}
-use Rattle.ndp_walk.specs.Walk.{Item, Ending, Clean}
+use Rattle.ndp_walk.specs.Walk.{Item, Ending}
 use Rattle.ndp_walk.specs.Laws.{Touch, endPlace, total, bytesIn, Of, concat}
 use Rattle.ndp_walk.proofs.Judging.{fitting, at-end, longer}
 use Rattle.ndp_walk.proofs.Walking.{Path, here, past, Stop, over, bad}

@@ -13,7 +13,7 @@ use Rattle.ndp_walk.specs.Walk.{Item, item, then, clean, refused, walkFr
 use Rattle.ndp_walk.specs.Step.{Told, told, ended, stopped, handed, answer, stepBy}
 use Rattle.ndp_walk.specs.Laws.{Of, Numbered}
 use Rattle.ndp_walk.proofs.Judging.{fitting, at-end, refusal-numbered}
-use Rattle.ndp_walk.proofs.Walking.{walk-over, walk-bad, walk-good, Path, here, past}
+use Rattle.ndp_walk.proofs.Walking.{walk-over, walk-bad, walk-good, here, past}
 use Rattle.ndp_walk.proofs.Paths.{path-own}
 
 abbrev number : Told → ℕ

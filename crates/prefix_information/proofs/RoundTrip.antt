@@ -14,7 +14,7 @@ use Rattle.wire.specs.Bits.{bit, clear}
 use Rattle.wire.proofs.Laws.{join32, split32, read-two, two-flags, clear-all, bit-clear}
 use Rattle.ndp_option_read.proofs.Rules.{Exact, exactly-accepts, exactly-means}
 use Rattle.prefix_information.specs.declared.PrefixInformation.{PrefixInformation}
-use Rattle.prefix_information.specs.Prefix.{informationAt, bytesOf, Told, told, prefixOf}
+use Rattle.prefix_information.specs.Prefix.{informationAt, bytesOf, told, prefixOf}
 use Rattle.prefix_information.specs.Reserved.{reserved, clearedFrom}
 use Rattle.prefix_information.proofs.Lists.{from, one-by-one}
 

@@ -2,7 +2,7 @@
 -- Assumes nothing.
 use Prim.Native.Nat.{ℕ, _+_}
 use mathlib.Core.Bool.{false}
-use mathlib.Core.List.{List, [], _∷_, _++_}
+use mathlib.Core.List.{List, _∷_, _++_}
 use lib.ListN.{getD, drop, replicate}
 use Rattle.paper.specs.Paper.{Paper}
 use Rattle.wire.specs.Wire.{word32, bytes32, hasFlag, flagOf}

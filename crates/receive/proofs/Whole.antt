@@ -3,15 +3,15 @@
 -- Assumes nothing.
 use Prim.Native.Nat.{ℕ, _+_, _≤_}
 use mathlib.Core.Path.{_≡_, refl, sym, ap, _∙_}
-use mathlib.Core.Bool.{Bool, true, false, false≢true}
-use mathlib.Core.List.{List, _∷_}
+use mathlib.Core.Bool.{true, false, false≢true}
+use mathlib.Core.List.{List}
 use native.Mathlib.Omega.{arith}
 use lib.ListN.{length, getD, drop}
 use borrow.Author.Tests.{not-false, eqb-true, ltb-false}
 use Rattle.message_table.specs.Table.{known, fixedLen, isNdp}
 use Rattle.packet_length.proofs.Laws.{sized-fits}
 use Rattle.icmpv6_type.proofs.Laws.{as-known}
-use Rattle.icmpv6.specs.Head.{decodeOf, checksumAt, fieldsAt}
+use Rattle.icmpv6.specs.Head.{decodeOf, fieldsAt}
 use Rattle.ndp_walk.specs.Walk.{Ending, Clean, RefusedAt, Walk}
 use Rattle.ndp_options.specs.Walk.{walk, walkFrom, stepOf}
 use Rattle.ndp_options.specs.Told.{stepTold}
@@ -21,7 +21,6 @@ use Rattle.ndp_options.proofs.Steps.{handed-on, refused-at, not-stopped}
 use Rattle.ndp_options.proofs.Laws.{all-bytes}
 use Rattle.receive.specs.declared.Received.{Received}
 use Rattle.receive.specs.declared.Received.the-variants.{Accepted}
-use Rattle.receive.specs.Reasons.{None}
 use Rattle.receive.specs.Receive.{isClean, reasons, receiveOf}
 use Rattle.receive.specs.Told.{told}
 use Rattle.receive.specs.Whole.{Reached, start, on, isWhole, Whole}

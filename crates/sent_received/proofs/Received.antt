@@ -6,9 +6,9 @@ use native.Mathlib.Omega.{arith}
 use mathlib.Core.Bool.{true}
 use mathlib.Core.Path.{_≡_, refl, sym, ap, _∙_}
 use mathlib.Core.List.{List}
-use lib.ListN.{length, getD, drop}
+use lib.ListN.{length, drop}
 use lib.Seq.{drop-drop}
-use Rattle.paper.specs.Paper.{Paper, gives}
+use Rattle.paper.specs.Paper.{gives}
 use Rattle.packet_length.proofs.Laws.{Between}
 use Rattle.message_table.specs.Table.{fixedLen, isNdp}
 use Rattle.icmpv6_headers.specs.declared.neighbor_advertisement_header.NeighborAdvertisementHeader.{NeighborAdvertisementHeader}
@@ -18,9 +18,7 @@ use Rattle.icmpv6_type.specs.declared.Icmpv6Type.the-variants.{RouterSolicitati
 use Rattle.icmpv6_type.specs.Value.{kindNumber, typeNumber, codeNumber}
 use Rattle.icmpv6_type.specs.Reserved.{Fits}
 use Rattle.checksum.specs.Running.{Bytes}
-use Rattle.checksum.specs.Icmpv6.{verdictOf}
 use Rattle.checksum.specs.Fields.{isValid}
-use Rattle.ndp_walk.specs.Walk.{Clean}
 use Rattle.ndp_options.specs.Walk.{walk}
 use Rattle.ndp_option_list.specs.Whole.{occurs}
 use Rattle.receive.specs.Reasons.{firstOf}

@@ -16,7 +16,7 @@ use Rattle.icmpv6_type.specs.Value.{nothing}
 use Rattle.icmpv6_type.specs.Reserved.{Fits}
 use Rattle.icmpv6_type.proofs.Laws.{four-bytes}
 use Rattle.icmpv6.specs.Head.{encodeOf}
-use Rattle.checksum.specs.Running.{Below, Bytes, none, more}
+use Rattle.checksum.specs.Running.{Bytes, none, more}
 use Rattle.checksum.proofs.Sums.{below-append}
 use Rattle.icmpv6_checksum.specs.Header.{headOf}
 

@@ -5,7 +5,6 @@ use Prim.Native.Nat.{ℕ}
 use mathlib.Core.Path.{_≡_, refl}
 use mathlib.Core.List.{List, [], _∷_, _++_, map}
 use lib.ListN.{replicate}
-use Rattle.paper.specs.Paper.{Paper}
 use Rattle.message_table.specs.Table.{known, fixedLen}
 use Rattle.icmpv6_type.specs.declared.Icmpv6Type.{Icmpv6Type}
 use Rattle.icmpv6_type.specs.declared.Icmpv6Type.the-variants.{Unknown, RouterSolicitation, NeighborSolicitation}

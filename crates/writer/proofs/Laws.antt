@@ -5,10 +5,10 @@ use native.Mathlib.Omega.{arith}
 use native.Mathlib.Decide.{decLe}
 use native.Mathlib.Nat.{zero-add}
 use mathlib.Core.Bool.{Bool, true, false, cond}
-use mathlib.Core.Path.{_≡_, refl, sym, ap, _∙_}
+use mathlib.Core.Path.{_≡_, refl, ap, _∙_}
 use mathlib.Core.List.{List, [], _∷_}
 use lib.Dec.{eqb, ltb}
-use lib.ListN.{length, getD, drop}
+use lib.ListN.{length, getD}
 use borrow.Author.Tests.{lt-ltb, le-ltb, ltb-false}
 use Rattle.paper.specs.Paper.{Paper, refuses, gives}
 use Rattle.refusal.specs.declared.Refusal.{Refusal}
@@ -20,11 +20,11 @@ use Rattle.icmpv6_type.specs.declared.Icmpv6Type.the-variants.{Unknown, Destina
 use Rattle.icmpv6_type.specs.Value.{kindNumber, typeNumber, codeNumber}
 use Rattle.icmpv6_type.specs.Reserved.{misnamed}
 use Rattle.icmpv6_payload_slice.specs.declared.Icmpv6PayloadKind.{Icmpv6PayloadKind}
-use Rattle.icmpv6_payload_slice.specs.Dispatch.{kindOf, kindTold, payloadOf, byValue}
+use Rattle.icmpv6_payload_slice.specs.Dispatch.{kindOf, kindTold, byValue}
 use Rattle.icmpv6_payload_slice.specs.Dispatch as dispatch
 use Rattle.icmpv6_payload_slice.specs.Parts.{optionsPart}
 use Rattle.icmpv6_payload_slice.proofs.Laws.{short, whole}
-use Rattle.ndp_walk.specs.Step.{Told, told}
+use Rattle.ndp_walk.specs.Step.{told}
 use Rattle.ndp_option_list.specs.Whole.{countOf}
 use Rattle.writer.specs.Write.{_orElse_, optionsOf, sendableOf, writeOf}
 use Rattle.output.specs.Output.{leaves}

@@ -5,25 +5,25 @@
 use Prim.Native.Nat.{ℕ, _+_, _/_, _%_, _<_, _≤_}
 use native.Mathlib.Omega.{arith}
 use mathlib.Core.Bool.{false}
-use mathlib.Core.Path.{_≡_, refl, sym, ap, _∙_}
+use mathlib.Core.Path.{_≡_, sym, ap, _∙_}
 use mathlib.Core.List.{List, [], _∷_, _++_}
-use lib.ListN.{length, getD, take, drop, length-append}
-use lib.Seq.{take-at, drop-at, drop-append-seam, take-append-seam}
+use lib.ListN.{length, take, drop, length-append}
+use lib.Seq.{drop-at, drop-append-seam, take-append-seam}
 use Rattle.paper.specs.Paper.{gives}
 use Rattle.wire.proofs.Laws.{join16}
 use Rattle.icmpv6_type.specs.declared.Icmpv6Type.{Icmpv6Type}
 use Rattle.icmpv6_type.specs.Value.{typeTold}
 use Rattle.icmpv6_type.specs.Reserved.{Fits, misnamed}
-use Rattle.icmpv6.specs.Head.{decodeOf, encodeOf, checksumAt}
+use Rattle.icmpv6.specs.Head.{decodeOf, checksumAt}
 use Rattle.icmpv6.proofs.RoundTrip.{clearedHead, read-write, write-read}
 use Rattle.checksum.specs.Running.{Bytes}
-use Rattle.checksum.specs.Icmpv6.{checksumOf, withField, verdictOf, valid}
+use Rattle.checksum.specs.Icmpv6.{checksumOf, verdictOf, valid}
 use Rattle.checksum.proofs.Sums.{below-append, below-set}
 use Rattle.checksum.proofs.Validity.{sent-validates}
 use Rattle.icmpv6_checksum.specs.Header.{headOf}
 use Rattle.output.specs.Output.{leaves}
 use Rattle.output.proofs.Wrote.{over-start}
-use Rattle.writer.specs.Write.{sealedHead, packetOf, writeOf}
+use Rattle.writer.specs.Write.{sealedHead, packetOf}
 use Rattle.writer.proofs.Bytes.{head-bytes, byte-at, eight}
 
 -- the computed checksum is of 16 bits

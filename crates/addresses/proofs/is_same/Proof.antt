@@ -1,7 +1,6 @@
 -- `is_same` meets its contract: the tests are the definition's.
 -- Assumes nothing.
 use borrow.Author.Tests.{eq-eqb, ne-eqb}
-use mathlib.Core.Path.{sym}
 use borrow.Author.Needs.{needs}
 use Rattle.addresses.proofs.is_same.Statement.{statement}
 use Rattle.addresses.proofs.is_same.Tie as tie

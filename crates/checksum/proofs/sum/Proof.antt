@@ -7,7 +7,7 @@ use Rattle.checksum.specs.Running.{lowFirst, folded, swapped}
 use lib.ListN.{length, length-take, length-drop}
 use borrow.Author.Needs.{needs}
 use native.Mathlib.Omega.{arith}
-use mathlib.Core.Path.{_≡_, refl, sym, _∙_, ap}
+use mathlib.Core.Path.{_≡_, _∙_, ap}
 use Prim.Native.Nat.{_+_, _-_, _<_, _≤_}
 use Rattle.checksum.proofs.sum.Statement.{statement}
 use Rattle.checksum.proofs.sum.Tie as tie

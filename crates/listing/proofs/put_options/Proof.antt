@@ -3,13 +3,8 @@
 use denote.Ref.{now}
 use Prim.Native.Nat.{_+_, _-_}
 use native.Mathlib.Omega.{arith}
-<<<<<<< HEAD
-use mathlib.Core.Path.{_≡_, refl, sym, ap, _∙_}
+use mathlib.Core.Path.{_≡_, sym, ap, _∙_}
 use mathlib.Core.Bool.{true}
-use mathlib.Core.List.{[]}
-=======
-use mathlib.Core.Path.{_≡_, ap}
->>>>>>> refs/heads/output
 use lib.Seq.{take-all}
 use lib.ListN.{length, take, drop, length-drop}
 use borrow.Author.Tests.{not-true, not-false}

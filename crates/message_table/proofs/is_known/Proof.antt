@@ -4,7 +4,6 @@ use Rattle.message_table.specs.Table.{known}
 use Rattle.message_table.specs.declared.Row.{Row}
 use lib.Dec.{ltb}
 use mathlib.Core.Path.{ap}
-use Prim.Native.Nat.{ℕ}
 use borrow.Author.Needs.{needs}
 use Rattle.message_table.proofs.is_known.Statement.{statement}
 use Rattle.message_table.proofs.is_known.Tie as tie

@@ -5,7 +5,6 @@ use mathlib.Core.Path.{sym}
 use native.Mathlib.Nat.{le-of-lt}
 use lib.Seq.{take-length}
 use lib.ListN.{length-drop, drop-of-length-le}
-use borrow.Author.Tests.{le-ltb}
 use borrow.Author.Needs.{needs}
 use Rattle.ndp_option.proofs.part.Statement.{statement}
 use Rattle.ndp_option.proofs.part.Tie as tie

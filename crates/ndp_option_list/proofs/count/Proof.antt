@@ -6,7 +6,7 @@ use Rattle.ndp_option_list.specs.Told.{tallyTold}
 use lib.ListN.{getD}
 use Prim.Native.Nat.{ℕ}
 use mathlib.Core.List.{List}
-use mathlib.Core.Path.{_≡_, sym, _∙_, ap}
+use mathlib.Core.Path.{sym, _∙_, ap}
 use borrow.Author.Needs.{needs}
 use Rattle.ndp_option_list.proofs.count.Statement.{statement}
 use Rattle.ndp_option_list.proofs.count.Tie as tie

@@ -1,6 +1,5 @@
 -- The two bytes that are read, as the header has them.
 -- Assumes nothing.
-use mathlib.Core.Path.{_∙_}
 use borrow.Author.Needs.{needs}
 use Rattle.ndp_option_read.proofs.header_at.Statement.{statement}
 use Rattle.ndp_option_read.proofs.header_at.Tie as tie

@@ -4,7 +4,6 @@ use Rattle.ndp_options.proofs.Rule.{no-units, cut-short, other-size, it
 use Rattle.ndp_walk.proofs.Judging.{known, over, short}
 use Rattle.ndp_walk.specs.Judge.{Bad}
 use Rattle.ndp_option_header.proofs.Read.{HeaderOf, header-read, header-refused}
-use lib.ListN.{length}
 use native.Mathlib.Omega.{arith}
 use mathlib.Core.Path.{sym, ap, _∙_}
 use borrow.Author.Needs.{needs}

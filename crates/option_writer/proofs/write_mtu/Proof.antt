@@ -1,9 +1,9 @@
 -- `write_mtu` meets its contract: what is put are the eight bytes of the option.
 -- Assumes nothing.
 use Prim.Native.Nat.{ℕ}
-use lib.ListN.{length, getD}
+use lib.ListN.{getD}
 use mathlib.Core.List.{List, [], _∷_}
-use mathlib.Core.Path.{_≡_, refl, ap}
+use mathlib.Core.Path.{refl, ap}
 use Rattle.option_writer.specs.Options.{mtuBytes}
 use Rattle.option_writer.proofs.Laws.{put-as}
 use denote.Ref.{now}

@@ -1,7 +1,7 @@
 -- `write_prefix_information` meets its contract: what is put are the 32 bytes of the option.
 -- Assumes nothing.
 use lib.ListN.{length}
-use mathlib.Core.Path.{_≡_, refl}
+use mathlib.Core.Path.{_≡_}
 use Rattle.option_writer.proofs.Laws.{put-as}
 use denote.Ref.{now}
 use borrow.Author.Needs.{needs}

@@ -5,7 +5,6 @@ use Rattle.receive.specs.Reasons.{firstOf}
 use Rattle.receive.specs.Rules.{ownOf}
 use borrow.Author.Tests.{ne-eqb}
 use native.Mathlib.Omega.{arith}
-use mathlib.Core.Path.{_≡_, _∙_}
 use borrow.Author.Needs.{needs}
 use Rattle.receive.proofs.own_reason.Statement.{statement}
 use Rattle.receive.proofs.own_reason.Tie as tie

@@ -1,8 +1,6 @@
 -- `check` meets its contract: each test is the definition's, in its order, and each answer of a callee is a case of it.
 -- Assumes nothing.
-use Prim.Native.Nat.{ℕ}
-use mathlib.Core.List.{List}
-use mathlib.Core.Path.{_≡_, sym, ap, _∙_}
+use mathlib.Core.Path.{sym, ap, _∙_}
 use denote.Ref.{now}
 use Rattle.ndp_option_list.specs.Whole.{countOf}
 use Rattle.ndp_option_list.specs.Told.{countTold}

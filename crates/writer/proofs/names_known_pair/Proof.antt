@@ -1,9 +1,7 @@
 -- `names_known_pair` meets its contract: a value of kind 0 is an Unknown, and no other names a pair of its own.
 -- Assumes nothing.
-use lib.Dec.{eqb}
-use mathlib.Core.Path.{_≡_, sym, ap, _∙_}
+use mathlib.Core.Path.{_∙_}
 use borrow.Author.Tests.{eq-eqb, ne-eqb}
-use Rattle.message_table.specs.Table.{known}
 use Rattle.writer.proofs.Laws.{misnamed-is}
 use borrow.Author.Needs.{needs}
 use Rattle.writer.proofs.names_known_pair.Statement.{statement}

@@ -3,7 +3,7 @@
 use denote.Ref.{now}
 use Rattle.icmpv6_checksum.specs.Header.{made}
 use Rattle.writer.proofs.Sealed.{sealed, never-refused}
-use mathlib.Core.Path.{_≡_, sym, ap, _∙_}
+use mathlib.Core.Path.{sym, ap, _∙_}
 use borrow.Author.Needs.{needs}
 use Rattle.writer.proofs.sealed_head.Statement.{statement}
 use Rattle.writer.proofs.sealed_head.Tie as tie

@@ -9,7 +9,6 @@ use Rattle.message_table.specs.Table.{known}
 use borrow.Author.Tests.{not-true, not-false}
 use mathlib.Core.List.{List, _∷_}
 use mathlib.Core.Path.{_≡_, _∙_, sym, ap}
-use mathlib.Core.Bool.{true}
 use Prim.Native.Nat.{ℕ}
 use borrow.Author.Needs.{needs}
 use Rattle.icmpv6_type.proofs.Icmpv6Type.from_parts.Statement.{statement}

@@ -1,7 +1,6 @@
 -- `from_bytes` meets its contract: an array of two is its first and its second.
 -- Assumes nothing.
 use Rattle.ndp_option_header.proofs.Paper.{both}
-use native.Mathlib.Omega.{arith}
 use borrow.Author.Needs.{needs}
 use Rattle.ndp_option_header.proofs.NdpOptionHeader.from_bytes.Statement.{statement}
 use Rattle.ndp_option_header.proofs.NdpOptionHeader.from_bytes.Tie as tie

@@ -3,7 +3,7 @@
 use native.Mathlib.Omega.{arith}
 use Rattle.paper.specs.Paper.{gives}
 use lib.ListN.{List·getD-eq-default}
-use mathlib.Core.Path.{_∙_, sym, ap}
+use mathlib.Core.Path.{ap}
 use borrow.Author.Tests.{lt-ltb, le-ltb}
 use Rattle.ndp_option_header.specs.Header.{headerOf}
 use borrow.Author.Needs.{needs}

@@ -6,7 +6,7 @@ use Rattle.ndp_walk.proofs.Steps.{beyond, within}
 use Rattle.ndp_walk.proofs.Judging.{fitting}
 use Rattle.ndp_walk.specs.Judge.{judge}
 use lib.Seq.{take-length}
-use lib.ListN.{length, drop, length-drop}
+use lib.ListN.{drop, length-drop}
 use native.Mathlib.Omega.{arith}
 use mathlib.Core.Path.{_≡_, _∙_, sym, ap}
 use borrow.Author.Needs.{needs}

@@ -5,9 +5,7 @@ use Rattle.refusal.specs.Table.{values}
 use Rattle.refusal.specs.declared.Numbers.{Numbers}
 use lib.ListN.{getD, List·getD-eq-default}
 use native.Mathlib.Nat.{le-trans}
-use mathlib.Core.List.{List}
 use mathlib.Core.Path.{_∙_, sym, ap}
-use Prim.Native.Nat.{ℕ}
 use borrow.Author.Needs.{needs}
 use Rattle.refusal.proofs.Refusal.value.Statement.{statement}
 use Rattle.refusal.proofs.Refusal.value.Tie as tie

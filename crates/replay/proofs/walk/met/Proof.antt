@@ -1,7 +1,7 @@
 -- `replay::walk::met` meets its contract: the steps left become fewer.
 -- Assumes nothing.
 use borrow.Author.Needs.{needs}
-use Prim.Native.Nat.{_-_, _≤_}
+use Prim.Native.Nat.{_≤_}
 use Rattle.replay.proofs.walk.met.Statement.{statement}
 use Rattle.replay.proofs.walk.met.Tie as tie
 
