@@ -9,6 +9,7 @@ use Rattle.paper.proofs.Facts.{one, two}
 use Rattle.output.proofs.Paper.{written-lossless}
 use Rattle.capture.proofs.Paper.{next-lossless}
 use Rattle.capture.proofs.next_record as next-record
+use Rattle.capture.proofs.address as address
 use Rattle.capture.proofs.part as part
 use Rattle.capture.proofs.write_record as write-record
 
@@ -17,6 +18,9 @@ next-record-unique M 𝓤 H A m f κs a g x y v w = one 𝓤 (λ p q. (next-loss
 
 pub part-unique : OnlyBy part.ended (λ κs. now) (λ M 𝓤. part.clauses 𝓤)
 part-unique M 𝓤 H A m f κs a g x y v w = one 𝓤 (λ p q. (p ∙ sym q, refl))
+
+pub address-unique : Only address.ended (λ M 𝓤. address.clauses 𝓤)
+address-unique M 𝓤 H A m f κs a g x y v w = one 𝓤 (λ p q. (p ∙ sym q, refl))
 
 pub write-record-unique : Only write-record.ended (λ M 𝓤. write-record.clauses 𝓤)
 write-record-unique M 𝓤 H A m f κs a g x y v w =

@@ -4,9 +4,10 @@ use Prim.Native.Nat.{ℕ, _+_, _-_, _/_, _%_, _^_}
 use mathlib.Core.Bool.{Bool, cond, not}
 use mathlib.Core.List.{List, [], _∷_, _++_}
 use lib.Dec.{ltb, eqb}
-use lib.ListN.{length, getD, take, drop}
+use lib.ListN.{length, getD, take, drop, replicate}
 use Rattle.paper.specs.Paper.{Paper, refuses, gives}
 use Rattle.wire.specs.Prefix.{begins}
+use Rattle.output.specs.Output.{over}
 use Rattle.wire.specs.Wire.{word16}
 
 -- "I6" in ASCII
@@ -28,6 +29,10 @@ packetLen s = word16 (getD s 35 0) (getD s 36 0)
 
 abbrev pub packet : List ℕ → List ℕ
 packet s = take (packetLen s) (drop 37 s)
+
+-- the address at a place: 16 bytes, 0 in place of those that are not there
+abbrev pub addressAt : List ℕ → ℕ → List ℕ
+addressAt s at = over (replicate 16 0) 0 (take 16 (drop at s))
 
 -- a record from its parts
 unfoldable pub recordBytes : ℕ → List ℕ → List ℕ → List ℕ → List ℕ

@@ -3,7 +3,7 @@ ghost use mathlib.Core.Path.{_≡_};
 ghost use Prim.Native.Nat.{_+_, _<_};
 ghost use lib.ListN.{length, take, drop};
 ghost use Rattle.output.specs.Output.{writtenTold, roomFor, leaves};
-ghost use Rattle.capture.specs.Record.{recordBytes, recordOf, placed, nextOf, recorded};
+ghost use Rattle.capture.specs.Record.{addressAt, recordBytes, recordOf, placed, nextOf, recorded};
 ghost use Rattle.capture.specs.Paper.{nextPaper};
 use output::Written;
 use refusal::Refusal;
@@ -87,6 +87,15 @@ pub fn part<'a>(capture: &'a [u8], at: usize, len: usize) -> &'a [u8]
     }
     let end = at + len;
     &capture[at..end]
+}
+
+// The address at a place: its 16 bytes, 0 in place of those that are not there.
+pub fn address(capture: &[u8], at: usize) -> [u8; 16]
+    ensures { λ r. ⌜ r ≡ addressAt (now (capture .entry)) at ⌝ }
+{
+    let mut address = [0u8; 16];
+    output::put(&mut address, 0, part(capture, at, 16));
+    address
 }
 
 // Writes a record from its parts at the start of `out`, and nothing where it refuses.

@@ -1,7 +1,12 @@
 -- `answer_all` is safe and ends: each record has bytes of its own, so there are no more records than bytes.
 -- Assumes nothing.
-use Prim.Native.Nat.{_≤_, _-_}
+use denote.Ref.{now}
+use Prim.Native.Nat.{ℕ, _+_, _-_, _≤_}
+use native.Mathlib.Omega.{arith}
 use lib.ListN.{length}
+use Rattle.capture.specs.Record.{placeIn}
+use Rattle.capture.specs.Capture.{FoundAt}
+use Rattle.capture.proofs.Calls.{found-at}
 use borrow.Author.Needs.{needs}
 use Rattle.receive_cases.proofs.answer_all.Statement.{statement}
 use Rattle.receive_cases.proofs.answer_all.Tie as tie
@@ -12,8 +17,25 @@ Inv-loop records at₀ number₀ t5 t6 at number = (at ≤ length records) × (n
 abbrev μ-loop : tie.MeasureT-loop
 μ-loop records at₀ number₀ t5 t6 at number = length records - at
 
+-- the record that was found, and where it ends
+abbrev Here : tie.After-found Inv-loop μ-loop → Type 0
+Here c =
+    let l = c .before .before .before in
+    FoundAt (now (l .before .before .args .records)) (l .loop .at) (placeIn 0 (l .loop .at)) (c .found .given .0 .0)
+
+here : (c : tie.After-found Inv-loop μ-loop) → Here c
+here c =
+    let n = c .before .before in
+    found-at (now (n .before .before .before .args .records)) (n .before .loop .at) 0 (n .next-record .ensures) (c .found .given .1)
+
 loop-holds : tie.Need-loop-holds Inv-loop μ-loop
 loop-holds c = search needs
+
+next-record-requires : tie.Need-next-record-requires Inv-loop μ-loop
+next-record-requires c κs = search needs
+
+enum-known-found : tie.Need-enum-known-found Inv-loop μ-loop
+enum-known-found c = search needs
 
 add-number : tie.Need-add-number Inv-loop μ-loop
 add-number c = search needs
@@ -27,35 +49,34 @@ slice-aggregate-write-all c = search needs
 write-all-requires : tie.Need-write-all-requires Inv-loop μ-loop
 write-all-requires c κs = search needs
 
-sub-answer-one : tie.Need-sub-answer-one Inv-loop μ-loop
-sub-answer-one c = search needs
+answer-requires : tie.Need-answer-requires Inv-loop μ-loop
+answer-requires c κs = search needs
 
-part-answer-one-start : tie.Need-part-answer-one-start Inv-loop μ-loop
-part-answer-one-start c = search needs
+loop-less : tie.Need-loop-less Inv-loop μ-loop
+loop-less c =
+    let f = c .before .before .before .before .before in
+    omega (arith, here f .next, here f .within)
 
-part-answer-one-end : tie.Need-part-answer-one-end Inv-loop μ-loop
-part-answer-one-end c = search needs
+loop-again : tie.Need-loop-again Inv-loop μ-loop
+loop-again c =
+    let f = c .before .before .before .before .before in
+    let l = f .before .before .before in
+    (omega (arith, here f .next, here f .within), omega (arith, here f .next, l .loop .inv .1))
 
-answer-one-requires : tie.Need-answer-one-requires Inv-loop μ-loop
-answer-one-requires c κs = search needs
+enum-told : tie.Need-enum-told Inv-loop μ-loop
+enum-told c = search needs
+
+returns : tie.Need-returns Inv-loop μ-loop
+returns c = search needs
+
+enum-told-2 : tie.Need-enum-told-2 Inv-loop μ-loop
+enum-told-2 c = search needs
 
 slice-aggregate-write-all-2 : tie.Need-slice-aggregate-write-all-2 Inv-loop μ-loop
 slice-aggregate-write-all-2 c = search needs
 
 write-all-requires-2 : tie.Need-write-all-requires-2 Inv-loop μ-loop
 write-all-requires-2 c κs = search needs
-
-returns : tie.Need-returns Inv-loop μ-loop
-returns c = search needs
-
-add-at : tie.Need-add-at Inv-loop μ-loop
-add-at c = search needs
-
-loop-less : tie.Need-loop-less Inv-loop μ-loop
-loop-less c = search needs
-
-loop-again : tie.Need-loop-again Inv-loop μ-loop
-loop-again c = search needs
 
 returns-2 : tie.Need-returns-2 Inv-loop μ-loop
 returns-2 c = search needs
@@ -67,18 +88,18 @@ answer-all-spec =
     Inv-loop
     μ-loop
     loop-holds
+    next-record-requires
+    enum-known-found
     add-number
     print-number-requires
     slice-aggregate-write-all
     write-all-requires
-    sub-answer-one
-    part-answer-one-start
-    part-answer-one-end
-    answer-one-requires
-    slice-aggregate-write-all-2
-    write-all-requires-2
-    returns
-    add-at
+    answer-requires
     loop-less
     loop-again
+    enum-told
+    returns
+    enum-told-2
+    slice-aggregate-write-all-2
+    write-all-requires-2
     returns-2)
