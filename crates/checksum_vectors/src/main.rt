@@ -3,16 +3,15 @@
 // for its packet and the verdict; then each of its bytes is inverted in turn, and no such packet may validate. At the end stands
 // how many headers that were read and given their checksum anew have the checksum that came in.
 ghost use Prim.Native.Nat.{_+_, _≤_};
-ghost use mathlib.Core.Path.{_≡_};
 ghost use lib.ListN.{length};
+use capture::Next;
+use capture::Record;
+use capture::next_record;
 use checksum::Computed;
 use checksum::Verdict;
 use icmpv6::icmpv6_header::HeaderRead;
 use icmpv6::icmpv6_header::Icmpv6Header;
 use icmpv6_checksum::HeaderMade;
-
-// The longest packet of a record.
-const LONGEST: usize = 2048;
 
 fn say(text: &[u8]) {
     io::write_all(1, text);
@@ -40,29 +39,6 @@ fn survives(packet: &[u8], source: &[u8; 16], destination: &[u8; 16]) -> u64
     } else {
         0
     }
-}
-
-fn address(s: &[u8], at: usize) -> [u8; 16]
-    requires { ⌜ at + 16 ≤ length (now s) ⌝ }
-{
-    [
-        s[at],
-        s[at + 1],
-        s[at + 2],
-        s[at + 3],
-        s[at + 4],
-        s[at + 5],
-        s[at + 6],
-        s[at + 7],
-        s[at + 8],
-        s[at + 9],
-        s[at + 10],
-        s[at + 11],
-        s[at + 12],
-        s[at + 13],
-        s[at + 14],
-        s[at + 15],
-    ]
 }
 
 // The checksum of a packet, worked out from its head and its payload, whatever its field holds.
@@ -138,28 +114,24 @@ struct Tally {
 }
 
 // A record's line.
-fn run_record(head: &[u8], packet: &[u8]) -> Tally
-    requires { ⌜ length (now head) ≡ 37 ⌝ }
-    ensures { λ r. ⌜ (r .survivors ≤ length (now (packet .entry))) × (r .headers ≤ 1) ⌝ }
+fn run_record(records: &[u8], found: Record) -> Tally
+    ensures { λ r. ⌜ (r .survivors ≤ 2048) × (r .headers ≤ 1) ⌝ }
 {
-    let source = address(head, 3);
-    let destination = address(head, 19);
+    let source = capture::address(records, found.source);
+    let destination = capture::address(records, found.destination);
+    let packet = capture::part(records, found.packet, found.len);
     say_checksum(packet, &source, &destination);
     say_verdict(packet, &source, &destination);
     let headers = comes_again(packet, &source, &destination);
-    let mut copy = [0u8; 2048];
-    if LONGEST < packet.len() {
+    if capture::MAX_PACKET_LEN < packet.len() {
         return Tally {
             survivors: 0,
             headers,
         };
     }
+    let mut copy = [0u8; 2048];
     let survivors = count_survivors(&mut copy, packet, &source, &destination);
     Tally { survivors, headers }
-}
-
-fn length_of(high: u8, low: u8) -> usize {
-    (high as usize) * 256 + (low as usize)
 }
 
 fn say_place(number: u64, at: usize) {
@@ -175,27 +147,33 @@ fn say_totals(records: u64, headers: u64, survivors: u64, left: usize) {
     say(b"\n");
 }
 
-fn run_capture(capture: &[u8])
-    requires { ⌜ length (now capture) ≤ 65536 ⌝ }
+fn run_capture(records: &[u8])
+    requires { ⌜ length (now records) ≤ 65536 ⌝ }
 {
     let mut at = 0;
-    let mut records: u64 = 0;
+    let mut number: u64 = 0;
     let mut headers: u64 = 0;
     let mut survivors: u64 = 0;
-    while capture.len() - at >= 37 {
-        let from = at + 37;
-        let len = length_of(capture[at + 35], capture[at + 36]);
-        if capture.len() - from < len {
-            break;
+    loop {
+        match next_record(records, at, 0) {
+            Next::Found(found) => {
+                number += 1;
+                say_place(number, at);
+                let tally = run_record(records, found);
+                headers += tally.headers;
+                survivors += tally.survivors;
+                at = found.next;
+            }
+            Next::End => {
+                say_totals(number, headers, survivors, 0);
+                return;
+            }
+            Next::Refused(_) => {
+                say_totals(number, headers, survivors, records.len() - at);
+                return;
+            }
         }
-        records += 1;
-        say_place(records, at);
-        let tally = run_record(&capture[at..from], &capture[from..from + len]);
-        headers += tally.headers;
-        survivors += tally.survivors;
-        at = from + len;
     }
-    say_totals(records, headers, survivors, capture.len() - at);
 }
 
 fn run_cases() {
