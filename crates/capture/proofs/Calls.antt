@@ -1,24 +1,30 @@
 -- What each answer of `next_record` says of the bytes, for callers: each law takes the call's promise and what the arm of the match has.
 -- Assumes nothing.
-use Prim.Native.Nat.{ℕ, _≤_}
+use Prim.Native.Nat.{ℕ, _+_, _≤_}
 use mathlib.Core.Path.{_≡_, refl, sym, ap, _∙_}
 use mathlib.Core.Bool.{Bool, true, false, cond}
 use mathlib.Core.List.{List, [], _∷_}
 use native.Mathlib.Omega.{arith}
 use lib.Dec.{ltb}
-use lib.ListN.{length, drop, length-drop}
+use lib.ListN.{length, take, drop, replicate, length-drop}
+use lib.Seq.{length-take-le}
 use borrow.Author.Tests.{ltb-false, le-ltb, eqb-false}
 use Rattle.paper.specs.Paper.{Paper, refuses, gives, value}
 use Rattle.refusal.specs.declared.Refusal.{Refusal}
 use Rattle.refusal.specs.Paper.{refusal}
 use Rattle.refusal.proofs.Paper.{refusal-numbered}
+use Rattle.output.proofs.Wrote.{over-whole}
 use Rattle.capture.specs.declared.Record.{Record}
 use Rattle.capture.specs.declared.Next.{Next}
 use Rattle.capture.specs.declared.Next.the-variants.{Found, End, Refused}
 use Rattle.capture.specs.Paper.{nextPaper}
-use Rattle.capture.specs.Record.{recordOf, isRecord, placed, placeIn, nextOf}
+use Rattle.capture.specs.Record.{addressAt, recordOf, isRecord, placed, placeIn, nextOf}
 use Rattle.capture.specs.Capture.{FoundAt}
 use Rattle.capture.proofs.Seen.{Seen, ended, cut, unmarked, long, found, seen}
+
+-- an address whose bytes are there is those bytes
+pub address-there : (s : List ℕ) (at : ℕ) → at + 16 ≤ length s → addressAt s at ≡ take 16 (drop at s)
+address-there s at h = over-whole (replicate 16 0) (take 16 (drop at s)) (length-take-le 16 (drop at s) (simp length-drop (omega arith)))
 
 -- an answer with no number says so of the bytes from the place on
 pub not-beyond : (s : List ℕ) (at base : ℕ) (p : Paper) → (p .number ≡ 14 → ⊥) → p ≡ nextOf s at base → (at ≤ length s) × (p ≡ placed at (recordOf (drop at s) (placeIn base at)))

@@ -18,10 +18,11 @@ use Rattle.refusal.specs.Paper.{refusal}
 use Rattle.refusal.proofs.Paper.{refusal-numbered}
 use Rattle.output.proofs.Wrote.{_then_, nothing, start}
 use Rattle.capture.specs.declared.Record.{Record}
-use Rattle.capture.specs.Record.{hopLimit, source, destination, packet, packetLen, recordOf, isRecord, placeIn}
+use Rattle.capture.specs.Record.{hopLimit, source, destination, packet, packetLen, addressAt, recordOf, isRecord, placeIn}
 use Rattle.capture.specs.Capture.{settled, recordLen, captureFrom}
 use Rattle.capture.proofs.Seen.{Seen, ended, cut, unmarked, long, found, seen}
 use Rattle.capture.proofs.Laws.{is-found}
+use Rattle.capture.proofs.Calls.{address-there}
 use Rattle.capture.specs.Capture.{FoundAt}
 use Rattle.lines.specs.Text.{recordsLine, stoppedLine}
 use Rattle.listing.specs.Packet.{recordText}
@@ -36,22 +37,19 @@ plain base at h = omega arith
 
 -- the parts of a record where the answer says they are
 pub record Parts (s : List ℕ) (at : ℕ) (r : Record) : Type 0 where
-  pub from : take 16 (drop (r .source) s) ≡ source (drop at s)
-  pub to : take 16 (drop (r .destination) s) ≡ destination (drop at s)
-  pub body : take (r .next - r .packet) (drop (r .packet) s) ≡ packet (drop at s)
+  pub from : addressAt s (r .source) ≡ source (drop at s)
+  pub to : addressAt s (r .destination) ≡ destination (drop at s)
+  pub body : take (r .len) (drop (r .packet) s) ≡ packet (drop at s)
   pub few : length (packet (drop at s)) ≤ 2048
-  pub inside : (r .source + 16 ≤ length s) × (r .destination + 16 ≤ length s) × (r .packet ≤ r .next) × (r .next ≤ length s)
 
 pub parts : (s : List ℕ) (at place : ℕ) (r : Record) → FoundAt s at place r → Parts s at r
 parts s at place r f =
-    let n : r .next - r .packet ≡ packetLen (drop at s) = omega (arith, f .next, f .packet) in
     let g = is-found (drop at s) place (f .here) in
     record {
-      from = rw (f .source, ← (drop-drop 3 at s));
-      to = rw (f .destination, ← (drop-drop 19 at s));
-      body = rw (n, f .packet, ← (drop-drop 37 at s));
+      from = address-there s (r .source) (omega (arith, f .source, f .within)) ∙ rw (f .source, ← (drop-drop 3 at s));
+      to = address-there s (r .destination) (omega (arith, f .destination, f .within)) ∙ rw (f .destination, ← (drop-drop 19 at s));
+      body = rw (f .len, f .packet, ← (drop-drop 37 at s));
       few = omega (arith, g .few, g .fits, length-take-le (packetLen (drop at s)) (drop 37 (drop at s)) (simp length-drop (omega (arith, g .fits, length-drop at s))));
-      inside = (omega (arith, f .source, f .within), omega (arith, f .destination, f .within), omega (arith, f .next, f .packet), omega (arith, f .next, f .within));
     }
 
 -- a refusal 14 is given where few bytes are left; others do not change

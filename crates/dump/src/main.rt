@@ -45,16 +45,6 @@ enum Filled {
     Failed,
 }
 
-fn address(bytes: &[u8], at: usize) -> [u8; 16]
-    requires { ⌜ at + 16 ≤ length (now bytes) ⌝ }
-    ensures { λ r. ⌜ r ≡ take 16 (drop at (now (bytes .entry))) ⌝ }
-{
-    let mut address = [0u8; 16];
-    let end = at + 16;
-    bytes::copy(&bytes[at..end], &mut address);
-    address
-}
-
 // The text of the record at the place of the next one.
 fn list_record(bytes: &[u8], out: &mut [u8], place: u64, s: Progress, found: Record) -> Progress
     requires { ⌜ (s .count ≤ place + s .at) × (place + length (now bytes) < 9223372036854775808) × (s .put + 33024 ≤ length (now out)) ⌝ }
@@ -63,10 +53,9 @@ fn list_record(bytes: &[u8], out: &mut [u8], place: u64, s: Progress, found: Rec
 {
     let count = s.count + 1;
     let here = place + s.at as u64;
-    let source = address(bytes, found.source);
-    let destination = address(bytes, found.destination);
-    let from = found.packet;
-    let to = found.next;
+    let source = capture::address(bytes, found.source);
+    let destination = capture::address(bytes, found.destination);
+    let packet = capture::part(bytes, found.packet, found.len);
     let put = listing::put_record(
         out,
         s.put,
@@ -75,11 +64,11 @@ fn list_record(bytes: &[u8], out: &mut [u8], place: u64, s: Progress, found: Rec
         found.hop_limit,
         &source,
         &destination,
-        &bytes[from..to],
+        packet,
     );
     match put {
         Written::To(next) => Progress {
-            at: to,
+            at: found.next,
             count,
             put: next,
             going: true,

@@ -1,10 +1,10 @@
 -- `dump::list_record` meets its contract: the parts are where the answer says, and there is room.
 -- Assumes nothing.
 use denote.Ref.{now}
-use Prim.Native.Nat.{_+_, _-_, _≤_}
+use Prim.Native.Nat.{_+_, _≤_}
 use native.Mathlib.Omega.{arith}
 use mathlib.Core.Path.{_≡_, refl, _∙_}
-use lib.ListN.{length, take, drop}
+use lib.ListN.{length, drop}
 use Rattle.output.proofs.Fitting.{told, not-full}
 use Rattle.listing.specs.Packet.{recordText}
 use Rattle.capture.proofs.Writing.{held}
@@ -21,29 +21,13 @@ add-here : tie.Need-add-here
 add-here c = search needs
 
 address-requires : tie.Need-address-requires
-address-requires c κs =
-    let a = c .before .before .before in
-    parts (now (a .args .bytes)) (a .args .s .at) _ (a .args .found) (a .pre .1) .inside .0
+address-requires c κs = search needs
 
 address-requires-2 : tie.Need-address-requires-2
-address-requires-2 c κs =
-    let a = c .before .before .before .before in
-    parts (now (a .args .bytes)) (a .args .s .at) _ (a .args .found) (a .pre .1) .inside .1
+address-requires-2 c κs = search needs
 
-sub-put-record : tie.Need-sub-put-record
-sub-put-record c =
-    let a = c .before .before .before .before .before .before .before .before in
-    omega (arith, parts (now (a .args .bytes)) (a .args .s .at) _ (a .args .found) (a .pre .1) .inside)
-
-part-put-record-start : tie.Need-part-put-record-start
-part-put-record-start c =
-    let a = c .before .before .before .before .before .before .before .before in
-    omega (arith, parts (now (a .args .bytes)) (a .args .s .at) _ (a .args .found) (a .pre .1) .inside)
-
-part-put-record-end : tie.Need-part-put-record-end
-part-put-record-end c =
-    let a = c .before .before .before .before .before .before .before .before in
-    omega (arith, parts (now (a .args .bytes)) (a .args .s .at) _ (a .args .found) (a .pre .1) .inside)
+part-requires : tie.Need-part-requires
+part-requires c κs = search needs
 
 put-record-requires : tie.Need-put-record-requires
 put-record-requires c κs = search needs
@@ -58,32 +42,40 @@ same-length : tie.Need-same-length
 same-length c = search needs
 
 -- the text that is put, as the definition has it
-abbrev Same : tie.After-address2 → Type 0
+abbrev Same : tie.After-part → Type 0
 Same c =
-    let d = c .before in
+    let e = c .before in
+    let d = e .before in
     let a = d .before .before .before .before .args in
     let b = drop (a .s .at) (now (a .bytes)) in
-    recordText (a .s .count + 1) (a .place + a .s .at) (a .found .«hop_limit») (d .address .result) (c .address2 .result) (take (a .found .next - a .found .packet) (drop (a .found .packet) (now (a .bytes)))) ≡ recordText (a .s .count + 1) (a .place + a .s .at) (hopLimit b) (source b) (destination b) (packet b)
+    recordText (a .s .count + 1) (a .place + a .s .at) (a .found .«hop_limit») (d .address .result) (e .address2 .result) (now (c .part .result)) ≡ recordText (a .s .count + 1) (a .place + a .s .at) (hopLimit b) (source b) (destination b) (packet b)
 
-same : (c : tie.After-address2) → Same c
+same : (c : tie.After-part) → Same c
 same c =
-    let d = c .before in
+    let e = c .before in
+    let d = e .before in
     let a = d .before .before .before .before in
     let k = parts (now (a .args .bytes)) (a .args .s .at) (a .args .place + a .args .s .at) (a .args .found) (a .pre .1) in
-    rw (a .pre .1 .hop, d .address .ensures ∙ k .from, c .address2 .ensures ∙ k .to, k .body)
+    rw (a .pre .1 .hop, d .address .ensures ∙ k .from, e .address2 .ensures ∙ k .to, c .part .ensures ∙ k .body)
+
+-- no longer than a record's packet
+few : (c : tie.After-part) → length (now (c .part .result)) ≤ 2048
+few c =
+    let a = c .before .before .before .before .before .before in
+    let k = parts (now (a .args .bytes)) (a .args .s .at) (a .args .place + a .args .s .at) (a .args .found) (a .pre .1) in
+    rw (c .part .ensures ∙ k .body) (k .few)
 
 returns : tie.Need-returns
 returns c =
     let p = c .before .before .before .before .before in
-    let e = p .before .before .before .before .before in
+    let q = p .before .before .before .before in
+    let e = q .before in
     let d = e .before in
     let a = d .before .before .before .before in
-    let k = parts (now (a .args .bytes)) (a .args .s .at) (a .args .place + a .args .s .at) (a .args .found) (a .pre .1) in
-    let body = take (a .args .found .next - a .args .found .packet) (drop (a .args .found .packet) (now (a .args .bytes))) in
-    let few : length body ≤ 2048 = rw (k .body) (k .few) in
-    let all = p .put-record .ensures .0 .1 few in
-    let w = told (now (a .args .out)) (a .args .s .put) (recordText (a .args .s .count + 1) (a .args .place + a .args .s .at) (a .args .found .«hop_limit») (d .address .result) (e .address2 .result) body) (rw (held body few) at (p .put-record .ensures .1)) (omega (arith, a .pre .0, all)) (p .put-record .ensures .0 .0 ∙ held body few _) (c .before .put .given .0 .0) (c .before .put .given .1) in
-    record { at = a .pre .1 .next; count = refl; wrote = rw (same e) at w; fits = omega (arith, w .ends, a .pre .0, all); going = refl; hungry = refl; done = refl }
+    let body = now (q .part .result) in
+    let all = p .put-record .ensures .0 .1 (few q) in
+    let w = told (now (a .args .out)) (a .args .s .put) (recordText (a .args .s .count + 1) (a .args .place + a .args .s .at) (a .args .found .«hop_limit») (d .address .result) (e .address2 .result) body) (rw (held body (few q)) at (p .put-record .ensures .1)) (omega (arith, a .pre .0, all)) (p .put-record .ensures .0 .0 ∙ held body (few q) _) (c .before .put .given .0 .0) (c .before .put .given .1) in
+    record { at = a .pre .1 .next; count = refl; wrote = rw (same q) at w; fits = omega (arith, w .ends, a .pre .0, all); going = refl; hungry = refl; done = refl }
 
 same-length-2 : tie.Need-same-length-2
 same-length-2 c = search needs
@@ -91,13 +83,12 @@ same-length-2 c = search needs
 returns-2 : tie.Need-returns-2
 returns-2 c =
     let p = c .before .before .before .before in
-    let e = p .before .before .before .before .before in
+    let q = p .before .before .before .before in
+    let e = q .before in
     let d = e .before in
     let a = d .before .before .before .before in
-    let k = parts (now (a .args .bytes)) (a .args .s .at) (a .args .place + a .args .s .at) (a .args .found) (a .pre .1) in
-    let body = take (a .args .found .next - a .args .found .packet) (drop (a .args .found .packet) (now (a .args .bytes))) in
-    let few : length body ≤ 2048 = rw (k .body) (k .few) in
-    absurd (not-full (now (a .args .out)) (a .args .s .put) (recordText (a .args .s .count + 1) (a .args .place + a .args .s .at) (a .args .found .«hop_limit») (d .address .result) (e .address2 .result) body) (rw (held body few) at (p .put-record .ensures .1)) (omega (arith, a .pre .0, p .put-record .ensures .0 .1 few)) (p .put-record .ensures .0 .0 ∙ held body few _) _ (c .enum-told .given .1))
+    let body = now (q .part .result) in
+    absurd (not-full (now (a .args .out)) (a .args .s .put) (recordText (a .args .s .count + 1) (a .args .place + a .args .s .at) (a .args .found .«hop_limit») (d .address .result) (e .address2 .result) body) (rw (held body (few q)) at (p .put-record .ensures .1)) (omega (arith, a .pre .0, p .put-record .ensures .0 .1 (few q))) (p .put-record .ensures .0 .0 ∙ held body (few q) _) _ (c .enum-told .given .1))
 
 pub list-record-spec : {M : Type 1} → statement M
 list-record-spec =
@@ -107,9 +98,7 @@ list-record-spec =
     add-here
     address-requires
     address-requires-2
-    sub-put-record
-    part-put-record-start
-    part-put-record-end
+    part-requires
     put-record-requires
     enum-known-put
     enum-told
