@@ -14,7 +14,8 @@ use Rattle.icmpv6_type.proofs.Paper.{typeFrom}
 use Rattle.c_api.specs.Answer.{REFUSED, WRITTEN, none}
 use Rattle.c_api.specs.declared.written.Written.{Written}
 
--- the value that is told as these numbers are
+-- The value that is told as these numbers are: `typeFrom` takes it back from them, which is proved beside it (`type-back`), so that nothing of it has
+-- to be believed.
 unfoldable pub valueOf : ℕ → ℕ → ℕ → Icmpv6Type
 valueOf type code word = typeFrom (typeOf type code (bytes32 word))
 
