@@ -2,7 +2,7 @@
 -- reading and written 0, unless the value is Unknown. In each byte the reserved bits are its lowest.
 -- Assumes nothing.
 use Prim.Native.Nat.{ℕ, _<_}
-use mathlib.Core.Bool.{Bool, cond, false}
+use mathlib.Core.Bool.{Bool, cond, _&&_}
 use mathlib.Core.List.{List, [], _∷_}
 use lib.Dec.{eqb}
 use lib.ListN.{getD}
@@ -10,7 +10,7 @@ use Rattle.wire.specs.Bits.{clear}
 use Rattle.message_table.specs.Table.{known}
 use Rattle.icmpv6_type.specs.declared.Icmpv6Type.{Icmpv6Type}
 use Rattle.icmpv6_type.specs.declared.Icmpv6Type.the-variants.{Unknown, DestinationUnreachable, PacketTooBig, TimeExceeded, ParameterProblem, EchoRequest, EchoReply, RouterSolicitation, RouterAdvertisement, NeighborSolicitation, NeighborAdvertisement, Redirect}
-use Rattle.icmpv6_type.specs.Value.{nothing}
+use Rattle.icmpv6_type.specs.Value.{kindNumber, typeNumber, codeNumber, nothing}
 
 -- how many low bits are reserved, of each of bytes 4 to 7
 abbrev pub reservedOf : ℕ → ℕ → List ℕ
@@ -48,15 +48,4 @@ Fits Redirect = Unit
 
 -- an Unknown that names a pair which the table has
 abbrev pub misnamed : Icmpv6Type → Bool
-misnamed (Unknown k c w) = known k c
-misnamed (DestinationUnreachable c) = false
-misnamed (PacketTooBig mtu) = false
-misnamed (TimeExceeded c) = false
-misnamed (ParameterProblem h) = false
-misnamed (EchoRequest h) = false
-misnamed (EchoReply h) = false
-misnamed RouterSolicitation = false
-misnamed (RouterAdvertisement h) = false
-misnamed NeighborSolicitation = false
-misnamed (NeighborAdvertisement h) = false
-misnamed Redirect = false
+misnamed t = eqb (kindNumber t) 0 && known (typeNumber t) (codeNumber t)

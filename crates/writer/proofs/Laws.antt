@@ -7,7 +7,7 @@ use native.Mathlib.Nat.{zero-add}
 use mathlib.Core.Bool.{Bool, true, false, cond}
 use mathlib.Core.Path.{_≡_, refl, ap, _∙_}
 use mathlib.Core.List.{List, [], _∷_}
-use lib.Dec.{eqb, ltb}
+use lib.Dec.{ltb}
 use lib.ListN.{length, getD}
 use borrow.Author.Tests.{lt-ltb, le-ltb, ltb-false}
 use Rattle.paper.specs.Paper.{Paper, refuses, gives}
@@ -29,21 +29,6 @@ use Rattle.ndp_option_list.specs.Whole.{countOf}
 use Rattle.writer.specs.Write.{_orElse_, optionsOf, sendableOf, writeOf}
 use Rattle.output.specs.Output.{leaves}
 use Rattle.output.proofs.Fitting.{fits as there-is-room, narrow as no-room}
-
--- an Unknown is told by its kind
-pub misnamed-is : (t : Icmpv6Type) → misnamed t ≡ cond (eqb (kindNumber t) 0) (known (typeNumber t) (codeNumber t)) false
-misnamed-is (Unknown k c w) = refl
-misnamed-is (DestinationUnreachable c) = refl
-misnamed-is (PacketTooBig mtu) = refl
-misnamed-is (TimeExceeded c) = refl
-misnamed-is (ParameterProblem h) = refl
-misnamed-is (EchoRequest h) = refl
-misnamed-is (EchoReply h) = refl
-misnamed-is RouterSolicitation = refl
-misnamed-is (RouterAdvertisement h) = refl
-misnamed-is NeighborSolicitation = refl
-misnamed-is (NeighborAdvertisement h) = refl
-misnamed-is Redirect = refl
 
 -- a value is dispatched to its own kind
 kind-kept : (t : Icmpv6Type) (s : List ℕ) → getD (kindOf (kindNumber t) s) 0 0 ≡ kindNumber t

@@ -2,7 +2,6 @@
 -- Assumes nothing.
 use mathlib.Core.Path.{_∙_}
 use borrow.Author.Tests.{eq-eqb, ne-eqb}
-use Rattle.writer.proofs.Laws.{misnamed-is}
 use borrow.Author.Needs.{needs}
 use Rattle.writer.proofs.names_known_pair.Statement.{statement}
 use Rattle.writer.proofs.names_known_pair.Tie as tie
@@ -20,13 +19,12 @@ is-known-requires : tie.Need-is-known-requires
 is-known-requires c κs = search needs
 
 returns : tie.Need-returns
-returns c = let k = c .before .before .before .before in
-    let t = k .before .args .icmp-type in
-    rw (misnamed-is t, ← (k .kind-u8 .ensures), eq-eqb _ _ (c .before .before .before .if1 .taken)) (c .is-known .ensures ∙ rw (c .before .code-u8 .ensures, c .before .before .type-u8 .ensures))
+returns c =
+    let k = c .before .before .before .before in
+    rw (← (k .kind-u8 .ensures), eq-eqb _ _ (c .before .before .before .if1 .taken)) (c .is-known .ensures ∙ rw (c .before .code-u8 .ensures, c .before .before .type-u8 .ensures))
 
 returns-2 : tie.Need-returns-2
-returns-2 c = let t = c .before .before .args .icmp-type in
-    rw (misnamed-is t, ← (c .before .kind-u8 .ensures), ne-eqb _ _ (c .if1 .left))
+returns-2 c = rw (← (c .before .kind-u8 .ensures), ne-eqb _ _ (c .if1 .left))
 
 pub names-known-pair-spec : {M : Type 1} → statement M
 names-known-pair-spec =
