@@ -1,8 +1,5 @@
 // Reads records (document 01, "The dump and its records") on standard input and writes a line for each: its number, and 0 where the receive
 // check accepts the packet, else the refusal's number and values. `make_cases.py` makes the input and the answers that are wanted.
-ghost use Prim.Native.Nat.{_+_, _≤_, _<_};
-ghost use lib.ListN.{length};
-ghost use Rattle.capture.specs.Capture.{FoundAt};
 use capture::Next;
 use capture::Record;
 use capture::next_record;
