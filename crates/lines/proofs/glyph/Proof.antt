@@ -1,3 +1,5 @@
+-- `lines::glyph` meets its contract: the digits below 10 stand from 48 on, the others from 97 on.
+-- Assumes nothing.
 use borrow.Author.Needs.{needs}
 use borrow.Author.Tests.{lt-ltb, le-ltb}
 use Rattle.lines.proofs.glyph.Statement.{statement}
