@@ -2,7 +2,7 @@
 -- and bytes that follow change nothing but the end and 14. Each is read off the cases at a place.
 -- Assumes nothing.
 use Prim.Native.Nat.{ℕ, _+_, _≤_}
-use mathlib.Core.Path.{_≡_, refl, sym, _∙_}
+use mathlib.Core.Path.{_≡_, refl, _∙_}
 use mathlib.Core.Bool.{true, false, false≢true}
 use mathlib.Core.List.{List, [], _∷_, _++_}
 use native.Mathlib.Omega.{arith}
@@ -30,13 +30,26 @@ found-by (unmarked h k) e = absurd (false≢true e)
 found-by (long h m l) e = absurd (false≢true e)
 found-by (found h m l k) e = record { marked = m; few = l; fits = omega arith; told = refl }
 
--- an answer that more bytes may change says that there are few
-few-by : {s : List ℕ} {place : ℕ} {p : Paper} → Seen s place p → settled p ≡ false → length s ≤ 2084
+few-by : {s : List ℕ} {place : ℕ} {p : Paper} → Seen s place p → p .number ≡ 14 → length s ≤ 2084
 few-by (ended h) e = omega arith
 few-by (cut h k) e = k
-few-by (unmarked h k) e = absurd (false≢true (sym e))
-few-by (long h m l) e = absurd (false≢true (sym e))
-few-by (found h m l k) e = absurd (false≢true (sym e))
+few-by (unmarked h k) e = omega arith
+few-by (long h m l) e = omega arith
+few-by (found h m l k) e = omega arith
+
+settled-by : {s : List ℕ} {place : ℕ} {p : Paper} → Seen s place p → (p .number ≡ 0 → ⊥) → (p .number ≡ 14 → ⊥) → settled p ≡ true
+settled-by (ended h) n e = absurd (n refl)
+settled-by (cut h k) n e = absurd (e refl)
+settled-by (unmarked h k) n e = refl
+settled-by (long h m l) n e = refl
+settled-by (found h m l k) n e = absurd (n refl)
+
+none-by : {s : List ℕ} {place : ℕ} {p : Paper} → Seen s place p → (p .number ≡ 0 → ⊥) → isRecord p ≡ false
+none-by (ended h) n = absurd (n refl)
+none-by (cut h k) n = refl
+none-by (unmarked h k) n = refl
+none-by (long h m l) n = refl
+none-by (found h m l k) n = absurd (n refl)
 
 -- of the same bytes the same length
 pub same-len : (s t : List ℕ) → 37 ≤ length s → packetLen (s ++ t) ≡ packetLen s
@@ -85,6 +98,13 @@ module _ (s : List ℕ) (place : ℕ) where
   pub is-found : isRecord (recordOf s place) ≡ true → Found s (recordOf s place)
   is-found = found-by (seen s place)
 
-  -- bytes that end before or inside a record are fewer than the longest one has
-  pub more-short : settled (recordOf s place) ≡ false → length s ≤ 2084
-  more-short = few-by (seen s place)
+  -- bytes that end inside a record are fewer than the longest one has
+  pub few-left : recordOf s place .number ≡ 14 → length s ≤ 2084
+  few-left = few-by (seen s place)
+
+  -- a refusal is no record, and unless it is 14 more bytes do not change it
+  pub no-record : (recordOf s place .number ≡ 0 → ⊥) → isRecord (recordOf s place) ≡ false
+  no-record = none-by (seen s place)
+
+  pub refused-settled : (recordOf s place .number ≡ 0 → ⊥) → (recordOf s place .number ≡ 14 → ⊥) → settled (recordOf s place) ≡ true
+  refused-settled = settled-by (seen s place)

@@ -1,14 +1,14 @@
--- What a record can hold, the length of a packet as bytes, and the length of a record.
+-- What a record can hold, and the length of a packet as bytes.
 -- Assumes nothing.
-use Prim.Native.Nat.{ℕ, _+_, _/_, _%_, _<_, _≤_}
+use Prim.Native.Nat.{ℕ, _/_, _%_, _<_, _≤_}
 use mathlib.Core.Path.{_≡_}
 use mathlib.Core.List.{List, [], _∷_}
 use native.Mathlib.Omega.{arith}
-use lib.ListN.{length, length-append}
+use lib.ListN.{length}
 use borrow.Author.Tests.{lt-ltb, le-ltb}
 use Rattle.paper.specs.Paper.{Paper, refuses}
 use Rattle.wire.specs.Wire.{bytes16}
-use Rattle.capture.specs.Record.{recordBytes, recorded}
+use Rattle.capture.specs.Record.{recorded}
 
 pub not-held : (p : List ℕ) → 2048 < length p → (answer : Paper) → recorded p answer ≡ refuses 13 (length p ∷ [])
 unfolding recorded
@@ -21,8 +21,3 @@ held p h answer = simp (le-ltb _ _ h)
 -- the packet's length as bytes: the high one is below 256
 pub length-bytes : (n : ℕ) → n ≤ 2048 → bytes16 n ≡ n / 256 ∷ n % 256 ∷ []
 length-bytes n h = let high : n / 256 % 256 ≡ n / 256 = omega arith in rw high
-
--- 37 bytes and the packet
-pub record-length : (hop : ℕ) (src dst p : List ℕ) → length src ≡ 16 → length dst ≡ 16 → length (recordBytes hop src dst p) ≡ 37 + length p
-unfolding recordBytes
-record-length hop src dst p s d = simp length-append (omega arith)

@@ -8,7 +8,7 @@ use lib.ListN.{length, getD, take, drop, replicate}
 use Rattle.paper.specs.Paper.{Paper, refuses, gives}
 use Rattle.wire.specs.Prefix.{begins}
 use Rattle.output.specs.Output.{over}
-use Rattle.wire.specs.Wire.{word16}
+use Rattle.wire.specs.Wire.{word16At}
 
 -- "I6" in ASCII
 abbrev pub mark : List ℕ
@@ -25,7 +25,7 @@ abbrev pub destination : List ℕ → List ℕ
 destination s = take 16 (drop 19 s)
 
 abbrev pub packetLen : List ℕ → ℕ
-packetLen s = word16 (getD s 35 0) (getD s 36 0)
+packetLen s = word16At s 35
 
 abbrev pub packet : List ℕ → List ℕ
 packet s = take (packetLen s) (drop 37 s)

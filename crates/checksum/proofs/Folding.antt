@@ -53,11 +53,7 @@ folded-both a b m n e f =
     ∙ ap (λ k. folded (m + k)) f
     ∙ folded-add-right m n
 
--- the sum of two 16-bit numbers is one, and the fold of their plain sum
-pub ⊕-bound : {a b : ℕ} → a < 65536 → b < 65536 → a ⊕ b < 65536
-unfolding _⊕_
-⊕-bound p q = omega arith
-
+-- the sum of two 16-bit numbers is the fold of their plain sum
 pub ⊕-folded : {a b : ℕ} → a < 65536 → b < 65536 → a ⊕ b ≡ folded (a + b)
 unfolding folded _⊕_
 ⊕-folded p q = omega arith

@@ -6,7 +6,7 @@ use mathlib.Core.List.{List, [], _∷_, _++_}
 use native.Mathlib.Numerals.{add-one}
 use native.Mathlib.Omega.{arith}
 use lib.ListN.{length, getD, take, drop, drop-of-length-le, length-drop, take-append-drop}
-use lib.Seq.{drop-cons, drop-drop, length-take-le, take-all}
+use lib.Seq.{drop-cons, drop-drop, length-take-le}
 use Rattle.checksum.specs.Running.{lowFirst}
 
 -- what the running total has yet to take in at i
@@ -42,7 +42,3 @@ rest-part s i e h l even =
     ap (λ k. lowFirst (take (e - i) (drop i s)) + k) (ap (rest s) (sym end) ∙ ap lowFirst (sym (drop-drop (e - i) i s)))
     ∙ sym (lowFirst-append (take (e - i) (drop i s)) (drop (e - i) (drop i s)) (rw long even))
     ∙ ap lowFirst (take-append-drop (e - i) (drop i s))
-
--- what `&s[i..]` holds
-pub part-to-end : (s : List ℕ) (i : ℕ) → take (length s - i) (drop i s) ≡ drop i s
-part-to-end s i = take-all (length s - i) (drop i s) (simp length-drop (omega arith))

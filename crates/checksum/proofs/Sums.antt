@@ -5,7 +5,8 @@ use mathlib.Core.Path.{_≡_, refl, sym, _∙_, ap}
 use mathlib.Core.List.{List, [], _∷_, _++_}
 use native.Mathlib.Omega.{arith}
 use lib.ListN.{length, getD, set}
-use Rattle.checksum.specs.Ones.{_⊕_, words, wordAt, withWord, onesSum}
+use Rattle.wire.specs.Wire.{word16}
+use Rattle.checksum.specs.Ones.{_⊕_, words, withWord, onesSum}
 use Rattle.checksum.specs.Running.{Below, none, more, Bytes, Words, plainSum, lowFirst, folded, swapped}
 use Rattle.checksum.proofs.Folding.{⊕-folded, folded-bound, folded-add-right, folded-shift, swapped-folded}
 
@@ -63,7 +64,7 @@ running-total {s} h =
     ∙ sym (onesSum-folded (words-small h))
 
 -- a word in another's place
-pub word-replaced : (s : List ℕ) (at n : ℕ) → at % 2 ≡ 0 → suc at < length s → n < 65536 → plainSum (words (withWord s at n)) + wordAt s at ≡ plainSum (words s) + n
+pub word-replaced : (s : List ℕ) (at n : ℕ) → at % 2 ≡ 0 → suc at < length s → n < 65536 → plainSum (words (withWord s at n)) + word16 (getD s at 0) (getD s (suc at) 0) ≡ plainSum (words s) + n
 word-replaced [] at n e h k = absurd (omega arith)
 word-replaced (a ∷ []) at n e h k = absurd (omega arith)
 word-replaced (a ∷ b ∷ s) zero n e h k = omega arith

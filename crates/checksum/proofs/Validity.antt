@@ -11,19 +11,15 @@ use borrow.Author.Tests.{eq-eqb, ne-eqb}
 use Rattle.wire.proofs.Cases.{cases}
 use Rattle.packet_length.specs.Length.{limit, sized}
 use Rattle.packet_length.proofs.Laws.{sized-fits}
-use Rattle.checksum.specs.Ones.{_⊕_, words, onesSum}
+use Rattle.checksum.specs.Ones.{_⊕_, words}
 use Rattle.checksum.specs.Icmpv6.{pseudoWords, sumOf, withField, checksumOf, payloadLimit, valid, invalid, verdictOf}
 use Rattle.checksum.specs.Fields.{isValid, validFields}
-use Rattle.checksum.specs.Running.{Bytes, plainSum, lowFirst, folded, swapped}
+use Rattle.checksum.specs.Running.{Bytes, plainSum, folded}
 use Rattle.checksum.proofs.Folding.{folded-fills, folded-positive, filled, filled-by-all, filled-twice}
-use Rattle.checksum.proofs.Sums.{below-append, below-set, word-replaced, running-total}
+use Rattle.checksum.proofs.Sums.{below-append, below-set, word-replaced}
 use Rattle.checksum.proofs.Packets.{plainSum-pseudo, sumOf-folded, withField-append}
 use Rattle.checksum.proofs.Cases.{router, everyone, solicitation}
 use Rattle.checksum.proofs.Passing.{passing-suc, passing-one}
-
--- the running total of the code, words of memory order added up, is the one's complement sum once it is folded and its bytes exchanged
-pub total-is-sum : {s : List ℕ} → Bytes s → swapped (folded (lowFirst s)) ≡ onesSum (words s)
-total-is-sum h = running-total h
 
 -- the plain sum of all but the field; the pseudo-header's 58 keeps it from being 0
 abbrev others : List ℕ → List ℕ → List ℕ → ℕ

@@ -2,7 +2,7 @@
 -- Assumes nothing.
 use Prim.Native.Nat.{ℕ, suc, _+_, _/_, _%_}
 use mathlib.Core.List.{List, [], _∷_}
-use lib.ListN.{getD, set}
+use lib.ListN.{set}
 use Rattle.wire.specs.Wire.{word16}
 
 -- section 1: one's complement addition of two 16-bit numbers, by the end around carry
@@ -21,9 +21,6 @@ abbrev pub onesSum : List ℕ → ℕ
 onesSum [] = 0
 onesSum (w ∷ ws) = w ⊕ onesSum ws
 
--- the word at a place of a list of bytes, and the bytes with another word there
-abbrev pub wordAt : List ℕ → ℕ → ℕ
-wordAt s at = word16 (getD s at 0) (getD s (suc at) 0)
-
+-- bytes with another word at a place
 abbrev pub withWord : List ℕ → ℕ → ℕ → List ℕ
 withWord s at n = set (set s at (n / 256 % 256)) (suc at) (n % 256)

@@ -19,9 +19,9 @@ use Rattle.refusal.proofs.Paper.{refusal-numbered}
 use Rattle.output.proofs.Wrote.{_then_, nothing, start}
 use Rattle.capture.specs.declared.Record.{Record}
 use Rattle.capture.specs.Record.{hopLimit, source, destination, packet, packetLen, addressAt, recordOf, isRecord, placeIn}
-use Rattle.capture.specs.Capture.{settled, recordLen, captureFrom}
-use Rattle.capture.proofs.Seen.{Seen, ended, cut, unmarked, long, found, seen}
-use Rattle.capture.proofs.Laws.{is-found}
+use Rattle.capture.specs.Capture.{recordLen, captureFrom}
+use Rattle.capture.proofs.Judged.{none-left}
+use Rattle.capture.proofs.Laws.{is-found, few-left, no-record, refused-settled}
 use Rattle.capture.proofs.Calls.{address-there}
 use Rattle.capture.specs.Capture.{FoundAt}
 use Rattle.lines.specs.Text.{recordsLine, stoppedLine}
@@ -52,28 +52,6 @@ parts s at place r f =
       few = omega (arith, g .few, g .fits, length-take-le (packetLen (drop at s)) (drop 37 (drop at s)) (simp length-drop (omega (arith, g .fits, length-drop at s))));
     }
 
--- a refusal 14 is given where few bytes are left; others do not change
-short-by : {s : List ℕ} {place : ℕ} {p : Paper} → Seen s place p → p .number ≡ 14 → length s ≤ 2084
-short-by (ended h) e = omega arith
-short-by (cut h k) e = k
-short-by (unmarked h k) e = omega arith
-short-by (long h m l) e = omega arith
-short-by (found h m l k) e = omega arith
-
-settled-by : {s : List ℕ} {place : ℕ} {p : Paper} → Seen s place p → (p .number ≡ 0 → ⊥) → (p .number ≡ 14 → ⊥) → settled p ≡ true
-settled-by (ended h) n e = absurd (n refl)
-settled-by (cut h k) n e = absurd (e refl)
-settled-by (unmarked h k) n e = refl
-settled-by (long h m l) n e = refl
-settled-by (found h m l k) n e = absurd (n refl)
-
-no-record : {s : List ℕ} {place : ℕ} {p : Paper} → Seen s place p → (p .number ≡ 0 → ⊥) → isRecord p ≡ false
-no-record (ended h) n = absurd (n refl)
-no-record (cut h k) n = refl
-no-record (unmarked h k) n = refl
-no-record (long h m l) n = refl
-no-record (found h m l k) n = absurd (n refl)
-
 -- bytes, and a refusal of what they begin with
 module _ (s : List ℕ) (place count : ℕ) (why : Refusal) (is : refusal why ≡ recordOf s place) where
   numbered : recordOf s place .number ≡ 0 → ⊥
@@ -83,14 +61,14 @@ module _ (s : List ℕ) (place count : ℕ) (why : Refusal) (is : refusal why �
   stopped = rw (← is) (simp (refusal-numbered why))
 
   pub stops-here : restText count (captureFrom place s) ≡ stoppedLine (number why) place
-  stops-here = on-stop count place s (no-record (seen s place) numbered) ∙ stopped
+  stops-here = on-stop count place s (no-record s place numbered) ∙ stopped
 
   pub stops-for-good : (number why ≡ 14 → ⊥) → (t : List ℕ) → restText count (captureFrom place (s ++ t)) ≡ stoppedLine (number why) place
   stops-for-good n t =
-      on-stop-more count place s t (no-record (seen s place) numbered) (settled-by (seen s place) numbered (λ e. n (ap (λ (p : Paper). p .number) is ∙ e))) ∙ stopped
+      on-stop-more count place s t (no-record s place numbered) (refused-settled s place numbered (λ e. n (ap (λ (p : Paper). p .number) is ∙ e))) ∙ stopped
 
-  pub few-left : number why ≡ 14 → length s ≤ 2084
-  few-left e = short-by (seen s place) (sym (ap (λ (p : Paper). p .number) is) ∙ e)
+  pub few-here : number why ≡ 14 → length s ≤ 2084
+  few-here e = few-left s place (sym (ap (λ (p : Paper). p .number) is) ∙ e)
 
   -- whatever follows, if nothing follows bytes that are missing
   pub stops-either : (end : Bool) → (number why ≡ 14 → end ≡ true) → (t : List ℕ) → (end ≡ true → t ≡ []) → restText count (captureFrom place (s ++ t)) ≡ stoppedLine (number why) place
@@ -102,14 +80,7 @@ module _ (s : List ℕ) (place count : ℕ) (why : Refusal) (is : refusal why �
 
 -- no bytes
 pub ends-here : (place count : ℕ) (s : List ℕ) → length s ≡ 0 → restText count (captureFrom place s) ≡ recordsLine count
-ends-here place count s h = by (seen s place) refl
-  where
-    by : {p : Paper} → Seen s place p → p ≡ recordOf s place → restText count (captureFrom place s) ≡ recordsLine count
-    by (ended k) e = on-stop count place s (ap isRecord (sym e)) ∙ rw (← e)
-    by (cut k l) e = absurd (omega arith)
-    by (unmarked k l) e = absurd (omega arith)
-    by (long k m l) e = absurd (omega arith)
-    by (found k m l f) e = absurd (omega arith)
+ends-here place count s h = let none = none-left s place h in on-stop count place s (ap isRecord none) ∙ rw none
 
 -- ---- some way in the bytes, in each case of a step
 module _ (place : ℕ) (bytes : List ℕ) (end : Bool) (out : List ℕ) (s : Progress) (inside : s .at ≤ length bytes) (counted : s .count ≤ place + s .at) where

@@ -5,7 +5,7 @@ use mathlib.Core.List.{List, [], _∷_, _++_}
 use lib.ListN.{length, getD}
 use Rattle.paper.specs.Paper.{Paper, gives}
 use Rattle.refusal.specs.Paper.{refusal}
-use Rattle.wire.specs.Wire.{word16, word32, bytes16}
+use Rattle.wire.specs.Wire.{word16At, word32At, bytes16}
 use Rattle.packet_length.specs.Length.{sized}
 use Rattle.icmpv6_type.specs.Value.{typeOf, typeTold, typeNumber, codeNumber, fieldBytes}
 use Rattle.icmpv6.specs.declared.icmpv6_header.Icmpv6Header.{Icmpv6Header}
@@ -19,7 +19,7 @@ abbrev pub fieldsAt : List ℕ → List ℕ
 fieldsAt p = getD p 4 0 ∷ getD p 5 0 ∷ getD p 6 0 ∷ getD p 7 0 ∷ []
 
 abbrev pub checksumAt : List ℕ → ℕ
-checksumAt p = word16 (getD p 2 0) (getD p 3 0)
+checksumAt p = word16At p 2
 
 -- the header at the start of a packet: the checksum field, and the value of the rest
 unfoldable pub decodeOf : List ℕ → Paper
@@ -29,7 +29,7 @@ decodeOf p = sized (length p) (gives (checksumAt p ∷ typeOf (getD p 0 0) (getD
 unfoldable pub partsOf : List ℕ → Paper
 partsOf p =
     sized (length p)
-    (gives (getD p 0 0 ∷ getD p 1 0 ∷ checksumAt p ∷ word32 (getD p 4 0) (getD p 5 0) (getD p 6 0) (getD p 7 0) ∷ []))
+    (gives (getD p 0 0 ∷ getD p 1 0 ∷ checksumAt p ∷ word32At p 4 ∷ []))
 
 -- the eight bytes that a header is written as
 abbrev pub encodeOf : Icmpv6Header → List ℕ

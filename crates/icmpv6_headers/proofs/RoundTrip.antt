@@ -24,7 +24,8 @@ use Rattle.icmpv6_headers.specs.Headers.{
   neighborTold,
   neighborBytes,
 }
-use Rattle.icmpv6_headers.proofs.Paper.{echoFrom, routerFrom, neighborFrom, flag-back}
+use Rattle.paper.proofs.Lossless.{one-if-back}
+use Rattle.icmpv6_headers.proofs.Paper.{echoFrom, routerFrom, neighborFrom}
 
 pub echo-written : (h : IcmpEchoHeader) → h .id < 65536 → h .seq < 65536 → echoOf (echoBytes h) ≡ echoTold h
 echo-written h i s = simp (join16 (h .id) i, join16 (h .seq) s)
@@ -45,7 +46,7 @@ module _ (p q r s : ℕ) (hp : p < 256) (hq : q < 256) (hr : r < 256) (hs : s < 
       ap (λ (l : List ℕ). l ++ bytes16 (word16 r s)) (split16 p q hp hq) ∙ ap (λ (l : List ℕ). p ∷ q ∷ l) (split16 r s hr hs)
 
   pub router-read : routerBytes (routerFrom (routerOf (p ∷ q ∷ r ∷ s ∷ []))) ≡ p ∷ clear 6 q ∷ r ∷ s ∷ []
-  router-read = simp (flag-back, two-flags q hq, split16 r s hr hs)
+  router-read = simp (one-if-back, two-flags q hq, split16 r s hr hs)
 
   pub neighbor-read : neighborBytes (neighborFrom (neighborOf (p ∷ q ∷ r ∷ s ∷ []))) ≡ clear 5 p ∷ 0 ∷ 0 ∷ 0 ∷ []
-  neighbor-read = simp (flag-back, three-flags p hp)
+  neighbor-read = simp (one-if-back, three-flags p hp)

@@ -2,40 +2,37 @@
 -- advertisement (section 4.4). A flag is told as 1 or 0. Reserved bits are dropped on reading and written 0.
 -- Assumes nothing.
 use Prim.Native.Nat.{ℕ, _+_}
-use mathlib.Core.Bool.{Bool, cond}
 use mathlib.Core.List.{List, [], _∷_, _++_}
 use lib.ListN.{getD}
-use Rattle.wire.specs.Wire.{word16, bytes16, hasFlag, flagOf}
+use Rattle.paper.specs.Paper.{oneIf}
+use Rattle.wire.specs.Wire.{word16At, bytes16, hasFlag, flagOf}
 use Rattle.icmpv6_headers.specs.declared.icmp_echo_header.IcmpEchoHeader.{IcmpEchoHeader}
 use Rattle.icmpv6_headers.specs.declared.router_advertisement_header.RouterAdvertisementHeader.{RouterAdvertisementHeader}
 use Rattle.icmpv6_headers.specs.declared.neighbor_advertisement_header.NeighborAdvertisementHeader.{NeighborAdvertisementHeader}
 
-abbrev pub flagTold : Bool → ℕ
-flagTold b = cond b 1 0
-
 -- identifier, sequence number
 abbrev pub echoOf : List ℕ → List ℕ
-echoOf b = word16 (getD b 0 0) (getD b 1 0) ∷ word16 (getD b 2 0) (getD b 3 0) ∷ []
+echoOf b = word16At b 0 ∷ word16At b 2 ∷ []
 
 -- hop limit; M and O, the two high bits of byte 5; lifetime
 abbrev pub routerOf : List ℕ → List ℕ
 routerOf b =
-    getD b 0 0 ∷ flagTold (hasFlag (getD b 1 0) 128) ∷ flagTold (hasFlag (getD b 1 0) 64) ∷ word16 (getD b 2 0) (getD b 3 0) ∷ []
+    getD b 0 0 ∷ oneIf (hasFlag (getD b 1 0) 128) ∷ oneIf (hasFlag (getD b 1 0) 64) ∷ word16At b 2 ∷ []
 
 -- R, S and O, the three high bits of byte 4
 abbrev pub neighborOf : List ℕ → List ℕ
 neighborOf b =
-    flagTold (hasFlag (getD b 0 0) 128) ∷ flagTold (hasFlag (getD b 0 0) 64) ∷ flagTold (hasFlag (getD b 0 0) 32) ∷ []
+    oneIf (hasFlag (getD b 0 0) 128) ∷ oneIf (hasFlag (getD b 0 0) 64) ∷ oneIf (hasFlag (getD b 0 0) 32) ∷ []
 
 abbrev pub echoTold : IcmpEchoHeader → List ℕ
 echoTold h = h .id ∷ h .seq ∷ []
 
 abbrev pub routerTold : RouterAdvertisementHeader → List ℕ
 routerTold h =
-    h .«cur_hop_limit» ∷ flagTold (h .«managed_address_config») ∷ flagTold (h .«other_config») ∷ h .«router_lifetime» ∷ []
+    h .«cur_hop_limit» ∷ oneIf (h .«managed_address_config») ∷ oneIf (h .«other_config») ∷ h .«router_lifetime» ∷ []
 
 abbrev pub neighborTold : NeighborAdvertisementHeader → List ℕ
-neighborTold h = flagTold (h .router) ∷ flagTold (h .solicited) ∷ flagTold (h .«override_flag») ∷ []
+neighborTold h = oneIf (h .router) ∷ oneIf (h .solicited) ∷ oneIf (h .«override_flag») ∷ []
 
 abbrev pub echoBytes : IcmpEchoHeader → List ℕ
 echoBytes h = bytes16 (h .id) ++ bytes16 (h .seq)

@@ -2,18 +2,13 @@
 -- Assumes nothing.
 use Prim.Native.Nat.{ℕ}
 use mathlib.Core.List.{List, [], _∷_, _++_}
-use lib.ListN.{getD}
-use Rattle.wire.specs.Wire.{word32, bytes32}
+use Rattle.wire.specs.Wire.{word32At, bytes32}
 use Rattle.icmpv6_payload.specs.declared.router_advertisement_payload.RouterAdvertisementPayload.{RouterAdvertisementPayload}
 use Rattle.icmpv6_payload.specs.declared.redirect_payload.RedirectPayload.{RedirectPayload}
 
--- four bytes from a place on as a number
-abbrev pub word32At : List ℕ → ℕ → ℕ → ℕ → ℕ → ℕ
-word32At s i j k l = word32 (getD s i 0) (getD s j 0) (getD s k 0) (getD s l 0)
-
 -- section 4.2: reachable time, retransmit timer
 abbrev pub timersIn : List ℕ → List ℕ
-timersIn s = word32At s 0 1 2 3 ∷ word32At s 4 5 6 7 ∷ []
+timersIn s = word32At s 0 ∷ word32At s 4 ∷ []
 
 abbrev pub timersTold : RouterAdvertisementPayload → List ℕ
 timersTold p = p .«reachable_time» ∷ p .«retrans_timer» ∷ []

@@ -6,7 +6,7 @@ use mathlib.Core.Bool.{cond}
 use mathlib.Core.List.{List, [], _∷_}
 use lib.Dec.{eqb}
 use lib.ListN.{getD}
-use Rattle.wire.specs.Wire.{word32, bytes32}
+use Rattle.wire.specs.Wire.{word32At, bytes32}
 use Rattle.message_table.specs.Table.{known}
 use Rattle.icmpv6_codes.specs.Codes.{destNumber, timeNumber, problemNumber}
 use Rattle.icmpv6_headers.specs.Headers.{echoOf, echoTold, echoBytes, routerOf, routerTold, routerBytes, neighborOf, neighborTold, neighborBytes}
@@ -15,7 +15,7 @@ use Rattle.icmpv6_type.specs.declared.Icmpv6Type.the-variants.{Unknown, 
 
 -- bytes 4 to 7 as one number
 abbrev pub wordOf : List ℕ → ℕ
-wordOf b = word32 (getD b 0 0) (getD b 1 0) (getD b 2 0) (getD b 3 0)
+wordOf b = word32At b 0
 
 -- what a known type keeps of its code and of bytes 4 to 7: 1 and 3 the code; 2 the MTU; 4 code and pointer; 128 and 129 identifier and
 -- sequence; 134 hop limit, M, O, lifetime; 136 R, S, O; the others nothing

@@ -192,6 +192,7 @@ fn put_line(out: &mut [u8], at: usize, line: Line) -> usize
 {
     match lines::put_line(out, at, line) {
         Written::To(n) => n,
+        // Never: there is room.
         Written::Refused(_) => at,
     }
 }

@@ -1,4 +1,3 @@
 pub mod Told
 pub mod Whole
-pub mod Calls
 pub mod Unique

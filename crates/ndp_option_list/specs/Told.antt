@@ -1,10 +1,9 @@
 -- The number and values of each case of the answers.
 -- Assumes nothing.
 use mathlib.Core.List.{[], _∷_}
-use Rattle.paper.specs.Paper.{gives}
+use Rattle.paper.specs.Paper.{gives, oneIf}
 use Rattle.refusal.specs.Paper.{refusal}
 use Rattle.ndp_walk.specs.Step.{Told, told}
-use Rattle.ndp_option_list.specs.Whole.{bit}
 use Rattle.ndp_option_list.specs.declared.Counted.{Counted}
 use Rattle.ndp_option_list.specs.declared.Counted.the-variants.{All, Refused}
 use Rattle.ndp_option_list.specs.declared.Occurs.{Occurs}
@@ -24,5 +23,5 @@ occursTold No = told (gives (0 ∷ [])) 0
 occursTold (OccursRefused why at) = told (refusal why) at
 
 abbrev pub tallyTold : Tally → Told
-tallyTold (TallyAll n found) = told (gives (n ∷ bit found ∷ [])) 0
+tallyTold (TallyAll n found) = told (gives (n ∷ oneIf found ∷ [])) 0
 tallyTold (TallyRefused why at) = told (refusal why) at

@@ -5,7 +5,7 @@ use mathlib.Core.Bool.{Bool, true, false, cond}
 use mathlib.Core.List.{List, [], _∷_}
 use lib.Dec.{eqb}
 use lib.ListN.{length}
-use Rattle.paper.specs.Paper.{Paper, gives}
+use Rattle.paper.specs.Paper.{Paper, gives, oneIf}
 use Rattle.ndp_walk.specs.Walk.{Item, Ending, Clean, RefusedAt}
 use Rattle.ndp_walk.specs.Step.{Told, told}
 use Rattle.ndp_options.specs.Walk.{walk}
@@ -19,17 +19,14 @@ endBy (RefusedAt at why) p = told why at
 abbrev pub countOf : List ℕ → Told
 countOf s = endBy (walk s .ending) (gives (length (walk s .items) ∷ []))
 
--- whether an option of the type is among them: 1, else 0
+-- whether an option of the type is among them
 unfoldable pub occurs : ℕ → List Item → Bool
 occurs type [] = false
 occurs type (i ∷ is) = cond (eqb (i .type) type) true (occurs type is)
 
-abbrev pub bit : Bool → ℕ
-bit b = cond b 1 0
-
 abbrev pub occursOf : ℕ → List ℕ → Told
-occursOf type s = endBy (walk s .ending) (gives (bit (occurs type (walk s .items)) ∷ []))
+occursOf type s = endBy (walk s .ending) (gives (oneIf (occurs type (walk s .items)) ∷ []))
 
 -- both
 abbrev pub tallyOf : ℕ → List ℕ → Told
-tallyOf type s = endBy (walk s .ending) (gives (length (walk s .items) ∷ bit (occurs type (walk s .items)) ∷ []))
+tallyOf type s = endBy (walk s .ending) (gives (length (walk s .items) ∷ oneIf (occurs type (walk s .items)) ∷ []))

@@ -52,8 +52,8 @@ fn walk_all(options: &[u8], wanted: NdpOptionType) -> Tally
             }
             Step::End => return Tally::All(n, found),
             Step::Refused(why, _) => return Tally::Refused(why, at),
-            // Never: a cursor that a step hands on is within the bytes.
-            Step::Stopped => return Tally::All(n, found),
+            // Never: a cursor that a step hands on is within the bytes. No number of options is right for a stopped walk, so none is told.
+            Step::Stopped => return Tally::Refused(Refusal::ZeroLength { id: wanted }, at),
         }
     }
 }

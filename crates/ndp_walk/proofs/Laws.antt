@@ -7,7 +7,7 @@ use mathlib.Core.List.{List, [], _∷_, _++_, map, append-nil}
 use native.Mathlib.Nat.{zero-add}
 use native.Mathlib.Omega.{arith}
 use lib.ListN.{length, getD, take, drop, length-append, length-drop, List·getD-append}
-use lib.Seq.{length-take-le, drop-length, drop-append-le, take-append-le, take-at, drop-at}
+use lib.Seq.{drop-length, drop-append-le, take-append-le, take-at, drop-at}
 use Rattle.paper.specs.Each.{Each}
 use Rattle.paper.specs.Paper.{Paper}
 use Rattle.ndp_option_header.specs.Header.{bytesOf}
@@ -19,10 +19,6 @@ use Rattle.ndp_walk.proofs.Walking.{walk-over, walk-bad, walk-good, Sto
 use Rattle.ndp_walk.proofs.Paths.{Rest, touch-total, path-touch, path-count, path-append, path-rest, path-own, path-bytes, end-place}
 
 -- ---- one walk
--- an option of the bytes has as many bytes as it is long
-pub bytes-length : {rule : Rule} (s : List ℕ) (i : Item) → Of rule s i → length (bytesIn s i) ≡ i .len
-bytes-length s i o = length-take-le (i .len) (drop (i .at) s) (omega (arith, o .within, length-drop (i .at) s))
-
 module _ (rule : Rule) (s : List ℕ) where
   came : Rest s (walked rule 0 s .to) (walked rule 0 s .rest)
   came = path-rest rule s (walked rule 0 s .path) (refl, omega arith)

@@ -5,7 +5,7 @@ use mathlib.Core.Bool.{false}
 use mathlib.Core.List.{List, _∷_, _++_}
 use lib.ListN.{getD, drop, replicate}
 use Rattle.paper.specs.Paper.{Paper}
-use Rattle.wire.specs.Wire.{word32, bytes32, hasFlag, flagOf}
+use Rattle.wire.specs.Wire.{word32At, bytes32, hasFlag, flagOf}
 use Rattle.prefix_information.specs.declared.PrefixInformation.{PrefixInformation}
 use Rattle.prefix_information.specs.declared.PrefixInformationRead.{PrefixInformationRead}
 use Rattle.ndp_option_read.specs.Rule.{readTold, headed, exactlyOf, ifRead}
@@ -17,8 +17,8 @@ informationAt s =
       «prefix_length» = getD s 2 0;
       «on_link» = hasFlag (getD s 3 0) 128;
       «autonomous_address_configuration» = hasFlag (getD s 3 0) 64;
-      «valid_lifetime» = word32 (getD s 4 0) (getD s 5 0) (getD s 6 0) (getD s 7 0);
-      «preferred_lifetime» = word32 (getD s 8 0) (getD s 9 0) (getD s 10 0) (getD s 11 0);
+      «valid_lifetime» = word32At s 4;
+      «preferred_lifetime» = word32At s 8;
       prefix = drop 16 s;
     }
 

@@ -2,11 +2,8 @@
 -- Assumes nothing.
 use denote.Ref.{now}
 use Prim.Native.Nat.{_-_}
-use native.Mathlib.Omega.{arith}
-use mathlib.Core.Path.{_≡_}
-use lib.Seq.{take-all}
-use lib.ListN.{length, take, drop, length-drop}
 use borrow.Author.Tests.{lt-ltb, le-ltb}
+use Rattle.paper.proofs.Rest.{rest-is}
 use Rattle.capture.specs.Record.{nextOf}
 use borrow.Author.Needs.{needs}
 use Rattle.capture.proofs.next_record.Statement.{statement}
@@ -36,9 +33,7 @@ unfolding nextOf
 returns-2 c =
     let a = c .before .before .before .before .before .args in
     let w = c .before .before .before in
-    let d = drop (a .at) (now (a .capture)) in
-    let all : take (length (now (a .capture)) - a .at) d ≡ d = take-all (length (now (a .capture)) - a .at) d (simp length-drop (omega arith)) in
-    simp (c .first-record .ensures, all, w .wrapping-add-u64 .ensures, le-ltb _ _ (c .before .before .if1 .left))
+    simp (c .first-record .ensures, rest-is (now (a .capture)) (a .at), w .wrapping-add-u64 .ensures, le-ltb _ _ (c .before .before .if1 .left))
 
 pub next-record-spec : {M : Type 1} → statement M
 next-record-spec =

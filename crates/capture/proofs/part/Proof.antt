@@ -5,8 +5,9 @@ use Prim.Native.Nat.{_+_, _-_}
 use native.Mathlib.Omega.{arith}
 use mathlib.Core.Path.{_≡_, sym, _∙_}
 use lib.Seq.{take-all, take-nil}
-use lib.ListN.{length, drop, drop-of-length-le, length-drop}
+use lib.ListN.{drop, drop-of-length-le, length-drop}
 use borrow.Author.Needs.{needs}
+use Rattle.paper.proofs.Rest.{rest-is}
 use Rattle.capture.proofs.part.Statement.{statement}
 use Rattle.capture.proofs.part.Tie as tie
 
@@ -34,7 +35,7 @@ returns-2 : tie.Need-returns-2
 returns-2 c =
     let a = c .before .before .before .args in
     let d = drop (a .at) (now (a .capture)) in
-    take-all (length (now (a .capture)) - a .at) d (simp length-drop (omega arith)) ∙ sym (take-all (a .len) d (simp length-drop (omega arith)))
+    rest-is (now (a .capture)) (a .at) ∙ sym (take-all (a .len) d (simp length-drop (omega arith)))
 
 add-end : tie.Need-add-end
 add-end c = search needs

@@ -1,8 +1,9 @@
 -- `sum` meets its contract: the fold of the total with what is left added stays that of the whole, piece by piece.
 -- Assumes nothing.
+use Rattle.paper.proofs.Rest.{rest-is}
 use Rattle.checksum.proofs.Sums.{below-of, running-total}
 use Rattle.checksum.proofs.Folding.{folded-bound, folded-add}
-use Rattle.checksum.proofs.Suffix.{rest, rest-part, part-to-end}
+use Rattle.checksum.proofs.Suffix.{rest, rest-part}
 use Rattle.checksum.specs.Running.{lowFirst, folded, swapped}
 use lib.ListN.{length, length-take, length-drop}
 use borrow.Author.Needs.{needs}
@@ -83,7 +84,7 @@ returns : tie.Need-returns Inv-loop μ-loop
 returns c =
     let at = c .before .before .before .before .before in
     let s = at .before .before .args .bytes .now in
-    let total = c .before .before .add-piece2 .ensures ∙ ap (λ l. at .loop .t + lowFirst l) (part-to-end s (at .loop .i)) in
+    let total = c .before .before .add-piece2 .ensures ∙ ap (λ l. at .loop .t + lowFirst l) (rest-is s (at .loop .i)) in
     c .swap .ensures
     ∙ ap swapped (c .before .fold2 .ensures ∙ ap folded total ∙ at .loop .inv .2)
     ∙ running-total (below-of s (λ i. omega (arith, at .before .shared-slice-known .given i)))

@@ -13,7 +13,7 @@ use Rattle.refusal.specs.Paper.{refusal}
 use Rattle.capture.specs.Record.{recordOf}
 use Rattle.capture.specs.Capture.{FoundAt}
 use Rattle.capture.proofs.Calls.{found-at, ended-at, refused-at}
-use Rattle.dump.proofs.Steps.{plain, waits, puts-record, puts-last, few-left, stops-either, ends-here}
+use Rattle.dump.proofs.Steps.{plain, waits, puts-record, puts-last, few-here, stops-either, ends-here}
 use borrow.Author.Needs.{needs}
 use Rattle.dump.proofs.step.Statement.{statement}
 use Rattle.dump.proofs.step.Tie as tie
@@ -113,7 +113,7 @@ returns-3 c =
     let a = n .before .before .before .before .before .before in
     let e = c .wait3 .ensures in
     let g = m .may-go-on .ensures .0 (c .before .if3 .taken) in
-    (waits (a .args .place) (now (a .args .bytes)) (a .args .ended) (now (a .args .out)) (a .args .s) (a .pre .0) (a .pre .1) (c .wait3 .result) (a .pre .2) (e .0) (e .1) (e .2) (e .3) (e .5) (λ h. (g .0, omega (arith, length-drop (a .args .s .at) (now (a .args .bytes)), few-left (drop (a .args .s .at) (now (a .args .bytes))) (a .args .place + a .args .s .at) (a .args .s .count) (w .why .given .0 .0) (refused w) (sym (m .before .number .ensures) ∙ g .1)))) (λ h. absurd (false≢true (sym h ∙ e .4))), λ k. absurd (false≢true (sym (e .3) ∙ k)))
+    (waits (a .args .place) (now (a .args .bytes)) (a .args .ended) (now (a .args .out)) (a .args .s) (a .pre .0) (a .pre .1) (c .wait3 .result) (a .pre .2) (e .0) (e .1) (e .2) (e .3) (e .5) (λ h. (g .0, omega (arith, length-drop (a .args .s .at) (now (a .args .bytes)), few-here (drop (a .args .s .at) (now (a .args .bytes))) (a .args .place + a .args .s .at) (a .args .s .count) (w .why .given .0 .0) (refused w) (sym (m .before .number .ensures) ∙ g .1)))) (λ h. absurd (false≢true (sym h ∙ e .4))), λ k. absurd (false≢true (sym (e .3) ∙ k)))
 
 add-t25 : tie.Need-add-t25
 add-t25 c = search needs

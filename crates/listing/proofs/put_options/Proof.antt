@@ -5,9 +5,9 @@ use Prim.Native.Nat.{_+_, _-_}
 use native.Mathlib.Omega.{arith}
 use mathlib.Core.Path.{_≡_, sym, ap, _∙_}
 use mathlib.Core.Bool.{true}
-use lib.Seq.{take-all}
 use lib.ListN.{length, take, drop, length-drop}
 use borrow.Author.Tests.{not-true, not-false}
+use Rattle.paper.proofs.Rest.{rest-is}
 use Rattle.message_table.specs.Table.{isNdp}
 use Rattle.output.proofs.Wrote.{nothing}
 use Rattle.listing.proofs.Text.{none-shown, part-cut, all-shown}
@@ -73,7 +73,7 @@ returns-3 c =
     let a = f .before .before .before .before .before in
     let p = now (a .args .packet) in
     let from = 8 + f .fixed-len .result in
-    let all : take (length p - from) (drop from p) ≡ drop from p = take-all (length p - from) (drop from p) (simp length-drop (omega arith)) in
+    let all : take (length p - from) (drop from p) ≡ drop from p = rest-is p from in
     (rw (all-shown (a .args .kind) p (ndp (f .before)) (rw (f .fixed-len .ensures) at (i .if2 .left)), ← (f .fixed-len .ensures)) (rw all at (l .put-walk .ensures .0)), omega (arith, l .put-walk .ensures .1, ap length all, length-drop from p, a .pre))
 
 pub put-options-spec : {M : Type 1} → statement M

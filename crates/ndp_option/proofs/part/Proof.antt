@@ -1,10 +1,10 @@
 -- `part` meets its contract: the bytes from a place on are a drop, and a place past the end leaves none.
 -- Assumes nothing.
+use Rattle.paper.proofs.Rest.{rest-is}
 use Rattle.refusal.proofs.Paper.{refusal-numbered}
 use mathlib.Core.Path.{sym}
 use native.Mathlib.Nat.{le-of-lt}
-use lib.Seq.{take-length}
-use lib.ListN.{length-drop, drop-of-length-le}
+use lib.ListN.{drop-of-length-le}
 use borrow.Author.Needs.{needs}
 use Rattle.ndp_option.proofs.part.Statement.{statement}
 use Rattle.ndp_option.proofs.part.Tie as tie
@@ -31,7 +31,7 @@ slice-aggregate-result-2 : tie.Need-slice-aggregate-result-2
 slice-aggregate-result-2 c = search needs
 
 returns : tie.Need-returns
-returns c = rw (c .before .before .enum-told .given .1, ← length-drop) (take-length _)
+returns c = rw (c .before .before .enum-told .given .1, rest-is)
 
 returns-2 : tie.Need-returns-2
 returns-2 c = rw (c .before .before .enum-told .given .1) (sym (drop-of-length-le _ (le-of-lt (c .before .if1 .left))))

@@ -2,9 +2,9 @@
 -- Assumes nothing.
 use Rattle.ndp_option_list.proofs.Whole.{answered, refused-whole}
 use Rattle.ndp_options.proofs.Steps.{refuses-some}
-use Rattle.ndp_option_list.specs.Whole.{bit, occursOf}
+use Rattle.ndp_option_list.specs.Whole.{occursOf}
 use Rattle.ndp_option_list.specs.Told.{tallyTold}
-use Rattle.paper.specs.Paper.{gives}
+use Rattle.paper.specs.Paper.{gives, oneIf}
 use Rattle.ndp_walk.specs.Step.{told}
 use lib.ListN.{getD}
 use Prim.Native.Nat.{ℕ}
@@ -15,7 +15,7 @@ use Rattle.ndp_option_list.proofs.has_type.Statement.{statement}
 use Rattle.ndp_option_list.proofs.has_type.Tie as tie
 
 -- the arm of a clean walk
-whole : (c : tie.After-found) → told (gives (bit (c .found .given .0 .1 .0) ∷ [])) 0 ≡ occursOf (c .before .before .before .before .args .wanted .0) (c .before .before .before .before .args .options .now)
+whole : (c : tie.After-found) → told (gives (oneIf (c .found .given .0 .1 .0) ∷ [])) 0 ≡ occursOf (c .before .before .before .before .args .wanted .0) (c .before .before .before .before .args .options .now)
 whole c =
     let all = answered _ _ _ (sym (ap tallyTold (c .found .given .1)) ∙ c .before .before .walk-all .ensures) in
     rw (all .0) (ap (λ (l : List ℕ). told (gives (getD l 1 0 ∷ [])) 0) (all .1))

@@ -4,12 +4,12 @@
 use Rattle.ndp_options.proofs.Steps.{handed-on, ended-at, refused-at, not-stopped}
 use Rattle.ndp_options.specs.Told.{itemTold}
 use Rattle.ndp_options.specs.Walk.{walkFrom}
-use Rattle.ndp_option_list.specs.Whole.{endBy, occurs, bit, tallyOf}
+use Rattle.ndp_option_list.specs.Whole.{endBy, occurs, tallyOf}
 use Rattle.ndp_options.specs.Rule.{rule}
 use Rattle.ndp_walk.proofs.Steps.{Onward}
 use Rattle.ndp_walk.specs.Step.{Told}
 use Rattle.ndp_walk.specs.Walk.{Item, Walk, then}
-use Rattle.paper.specs.Paper.{gives}
+use Rattle.paper.specs.Paper.{gives, oneIf}
 use borrow.Author.Needs.{needs}
 use lib.ListN.{length, drop}
 use lib.Dec.{eqb}
@@ -24,16 +24,16 @@ use Rattle.ndp_option_list.proofs.walk_all.Tie as tie
 
 -- what was found, and what a walk comes to
 abbrev more : ℕ → ℕ → Bool → Walk → Told
-more wanted n found w = endBy (w .ending) (gives ((n + length (w .items)) ∷ bit (cond found true (occurs wanted (w .items))) ∷ []))
+more wanted n found w = endBy (w .ending) (gives ((n + length (w .items)) ∷ oneIf (cond found true (occurs wanted (w .items))) ∷ []))
 
 -- one option more
 turn : (wanted n : ℕ) (found : Bool) (i : Item) (w : Walk) → more wanted n found (then (i ∷ []) w) ≡ more wanted (n + 1) (cond found true (eqb (i .type) wanted)) w
 unfolding occurs
 turn wanted n true i w = ap (λ (k : ℕ). endBy (w .ending) (gives (k ∷ 1 ∷ []))) (omega arith)
-turn wanted n false i w = ap (λ (k : ℕ). endBy (w .ending) (gives (k ∷ bit (occurs wanted (i ∷ w .items)) ∷ []))) (omega arith)
+turn wanted n false i w = ap (λ (k : ℕ). endBy (w .ending) (gives (k ∷ oneIf (occurs wanted (i ∷ w .items)) ∷ []))) (omega arith)
 
 -- no more
-over : (found : Bool) → bit (cond found true false) ≡ bit found
+over : (found : Bool) → oneIf (cond found true false) ≡ oneIf found
 over true = refl
 over false = refl
 

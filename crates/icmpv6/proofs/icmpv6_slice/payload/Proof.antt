@@ -2,9 +2,9 @@
 -- Assumes nothing.
 use native.Mathlib.Omega.{arith}
 use native.Mathlib.Nat.{sub-self}
-use lib.Seq.{take-length}
-use lib.ListN.{drop-of-length-le, length-drop}
+use lib.ListN.{drop-of-length-le}
 use borrow.Author.Needs.{needs}
+use Rattle.paper.proofs.Rest.{rest-is}
 use Rattle.icmpv6.proofs.icmpv6_slice.payload.Statement.{statement}
 use Rattle.icmpv6.proofs.icmpv6_slice.payload.Tie as tie
 
@@ -31,7 +31,7 @@ part-result-end-2 : tie.Need-part-result-end-2
 part-result-end-2 c = search needs
 
 returns-2 : tie.Need-returns-2
-returns-2 c = rw (← length-drop) (take-length _)
+returns-2 c = rw rest-is
 
 pub payload-spec : {M : Type 1} → statement M
 payload-spec =

@@ -4,9 +4,9 @@ use native.Mathlib.Omega.{arith}
 use denote.Ref.{now}
 use mathlib.Core.Path.{_≡_, sym, ap, _∙_}
 use mathlib.Core.Bool.{true, false}
-use lib.ListN.{drop-of-length-le, length-drop}
-use lib.Seq.{take-length}
+use lib.ListN.{drop-of-length-le}
 use borrow.Author.Tests.{not-true, not-false}
+use Rattle.paper.proofs.Rest.{rest-is}
 use Rattle.message_table.specs.Table.{isNdp}
 use Rattle.icmpv6_payload_slice.specs.Dispatch.{kindNumber}
 use borrow.Author.Needs.{needs}
@@ -50,7 +50,7 @@ part-result-end : tie.Need-part-result-end
 part-result-end c = search needs
 
 returns-3 : tie.Need-returns-3
-returns-3 c = simp (ndp (c .before .before)) (rw (← length-drop) (take-length _))
+returns-3 c = simp (ndp (c .before .before)) (rw rest-is)
 
 pub options-spec : {M : Type 1} → statement M
 options-spec =

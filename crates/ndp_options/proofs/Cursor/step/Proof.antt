@@ -1,11 +1,11 @@
 -- `Cursor::step` meets its contract: the judgement is that on the rest at the cursor, and each arm answers it as `stepOf` does.
 -- Assumes nothing.
+use Rattle.paper.proofs.Rest.{rest-is}
 use Rattle.ndp_options.specs.Told.{judgedTold}
 use Rattle.ndp_options.specs.Rule.{rule}
 use Rattle.ndp_walk.proofs.Steps.{beyond, within}
 use Rattle.ndp_walk.proofs.Judging.{fitting}
 use Rattle.ndp_walk.specs.Judge.{judge}
-use lib.Seq.{take-length}
 use lib.ListN.{drop, length-drop}
 use native.Mathlib.Omega.{arith}
 use mathlib.Core.Path.{_≡_, _∙_, sym, ap}
@@ -18,7 +18,7 @@ returns c = sym (beyond _ _ _ (c .if1 .taken) .1)
 
 -- what the call of `judge` found
 found : (c : tie.After-judge) → judgedTold (c .judge .result) ≡ judge rule (drop (c .before .before .before .before .args .self .at) (c .before .before .before .before .args .options .now))
-found c = c .judge .ensures ∙ ap (judge rule) (rw (← length-drop) (take-length _))
+found c = c .judge .ensures ∙ ap (judge rule) (rw rest-is)
 
 sub-judge : tie.Need-sub-judge
 sub-judge c = search needs
