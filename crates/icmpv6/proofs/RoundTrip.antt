@@ -8,7 +8,6 @@ use mathlib.Core.List.{List, _∷_, _++_}
 use native.Mathlib.Omega.{arith}
 use lib.ListN.{length, getD, drop}
 use Rattle.paper.specs.Paper.{Paper, gives}
-use Rattle.wire.specs.Wire.{word16}
 use Rattle.wire.proofs.Laws.{join16, high16, low16}
 use Rattle.packet_length.specs.Length.{limit}
 use Rattle.packet_length.proofs.Laws.{sized-fits}
@@ -17,7 +16,7 @@ use Rattle.icmpv6_type.specs.Reserved.{cleared, Fits, misnamed}
 use Rattle.icmpv6_type.proofs.Laws.{four-bytes}
 use Rattle.icmpv6_type.proofs.RoundTrip as value
 use Rattle.icmpv6.specs.declared.icmpv6_header.Icmpv6Header.{Icmpv6Header}
-use Rattle.icmpv6.specs.Head.{decodeOf, encodeOf, headerTold, fieldsAt}
+use Rattle.icmpv6.specs.Head.{decodeOf, encodeOf, headerTold, fieldsAt, checksumAt}
 
 -- the head of a packet without its reserved bits
 abbrev pub clearedHead : List ℕ → List ℕ
@@ -27,7 +26,7 @@ module _ (p : List ℕ) (low : 8 ≤ length p) (high : length p ≤ limit) (byte
   pub read-write : (h : Icmpv6Header) → gives (headerTold h) ≡ decodeOf p → encodeOf h ≡ clearedHead p
   unfolding decodeOf
   read-write h q =
-      let e : headerTold h ≡ word16 (getD p 2 0) (getD p 3 0) ∷ typeOf (getD p 0 0) (getD p 1 0) (fieldsAt p) = ap (λ (x : Paper). x .values) (q ∙ sized-fits (length p) low high _) in
+      let e : headerTold h ≡ checksumAt p ∷ typeOf (getD p 0 0) (getD p 1 0) (fieldsAt p) = ap (λ (x : Paper). x .values) (q ∙ sized-fits (length p) low high _) in
       let sum = ap (λ (l : List ℕ). getD l 0 0) e in
       let w = value.read-write (getD p 4 0) (getD p 5 0) (getD p 6 0) (getD p 7 0) (bytes 4) (bytes 5) (bytes 6) (bytes 7) (getD p 0 0) (getD p 1 0) (h .«icmp_type») (ap (drop 1) e) in
       rw (w .0, w .1, w .2, sum, high16 (getD p 2 0) (getD p 3 0) (bytes 2) (bytes 3), low16 (getD p 2 0) (getD p 3 0) (bytes 2) (bytes 3))

@@ -1,4 +1,4 @@
--- Lines of document 01's listing, by computation.
+-- Lines by computation: those of document 01's listing, the largest number, and a capture that is refused.
 -- Assumes nothing.
 use mathlib.Core.Path.{_≡_, refl}
 use mathlib.Core.Bool.{true}
@@ -14,7 +14,7 @@ record-2 : text (line.Record 2 53) ≡ ascii "record 2 at 53\n"
 unfolding field decimal decimalBy
 record-2 = refl
 
-head-1 : text (line.Head 133 0 31276 true 16 5) ≡ ascii "rs code 0 sum 7a2c ok len 16 recv 5\n"
+head-1 : text (line.Head 133 0 31276 true 16 0) ≡ ascii "rs code 0 sum 7a2c ok len 16 recv 0\n"
 unfolding field decimal decimalBy
 head-1 = refl
 

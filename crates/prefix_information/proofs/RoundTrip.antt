@@ -9,14 +9,14 @@ use lib.Dec.{ltb, lit≤}
 use lib.ListN.{length, getD, drop}
 use borrow.Author.Tests.{ne-eqb, le-ltb}
 use Rattle.paper.specs.Paper.{gives}
-use Rattle.wire.specs.Wire.{word32, bytes32}
+use Rattle.wire.specs.Wire.{word32At, bytes32}
 use Rattle.wire.specs.Bits.{bit, clear}
 use Rattle.wire.proofs.Laws.{join32, split32, read-two, two-flags, clear-all, bit-clear}
 use Rattle.ndp_option_read.proofs.Rules.{Exact, exactly-accepts, exactly-means}
 use Rattle.prefix_information.specs.declared.PrefixInformation.{PrefixInformation}
 use Rattle.prefix_information.specs.Prefix.{informationAt, bytesOf, told, prefixOf}
 use Rattle.prefix_information.specs.Reserved.{reserved, clearedFrom}
-use Rattle.prefix_information.proofs.Lists.{from, one-by-one}
+use Rattle.prefix_information.proofs.Lists.{one-by-one}
 
 -- the premises say that the lifetimes are of 32 bits and the prefix of 16 bytes, as the record's types have it
 module _ (i : PrefixInformation) (valid : i .«valid_lifetime» < 4294967296) (preferred : i .«preferred_lifetime» < 4294967296) (sixteen : length (i .prefix) ≡ 16) where
@@ -45,7 +45,7 @@ module _ (s : List ℕ) (accepted : prefixOf s .paper ≡ gives []) (bytes : (i 
   exact = exactly-means 3 4 s accepted
 
   -- four bytes from byte i on, written as they were read
-  four : (i : ℕ) (l : List ℕ) → bytes32 (word32 (getD s i 0) (getD s (i + 1) 0) (getD s (i + 2) 0) (getD s (i + 3) 0)) ++ l ≡ getD s i 0 ∷ getD s (i + 1) 0 ∷ getD s (i + 2) 0 ∷ getD s (i + 3) 0 ∷ l
+  four : (i : ℕ) (l : List ℕ) → bytes32 (word32At s i) ++ l ≡ getD s i 0 ∷ getD s (i + 1) 0 ∷ getD s (i + 2) 0 ∷ getD s (i + 3) 0 ∷ l
   four i l = ap (λ (m : List ℕ). m ++ l) (split32 (getD s i 0) (getD s (i + 1) 0) (getD s (i + 2) 0) (getD s (i + 3) 0) (bytes i) (bytes (i + 1)) (bytes (i + 2)) (bytes (i + 3)))
 
   -- byte 12 to 15
