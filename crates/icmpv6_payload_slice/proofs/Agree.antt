@@ -1,16 +1,16 @@
 -- The two dispatches: on a value that was decoded they agree, since its kind is the type where the table has the pair; on an Unknown that names
 -- a known pair they differ.
 -- Assumes nothing.
-use Prim.Native.Nat.{ℕ, _+_, _≤_}
+use Prim.Native.Nat.{ℕ, _+_, _-_, _≤_}
 use mathlib.Core.Bool.{Bool, true, false, cond}
 use mathlib.Core.Path.{_≡_, refl, sym, ap, _∙_}
 use mathlib.Core.List.{List, [], _∷_, _++_}
 use native.Mathlib.Omega.{arith}
-use lib.Dec.{ltb}
-use lib.ListN.{length, getD, drop}
+use lib.Dec.{eqb, ltb}
+use lib.ListN.{length, getD, drop, length-drop}
 use borrow.Author.Tests.{ltb-true, ltb-false, lt-ltb}
 use Rattle.paper.specs.Paper.{Paper, refuses, gives}
-use Rattle.message_table.specs.Table.{rows, rowOf, known, fixedLen}
+use Rattle.message_table.specs.Table.{rows, rowOf, known, fixedLen, isNdp}
 use Rattle.message_table.proofs.View.{view, not-0}
 use Rattle.packet_length.specs.Length.{limit, sized}
 use Rattle.packet_length.proofs.Laws.{Between, sized-fits}
@@ -19,7 +19,7 @@ use Rattle.icmpv6_type.specs.declared.Icmpv6Type.the-variants.{Unknown}
 use Rattle.icmpv6_type.specs.Value.{typeTold, typeOf, kindNumber, fieldsOf, wordOf}
 use Rattle.icmpv6.specs.declared.icmpv6_header.Icmpv6Header.{Icmpv6Header}
 use Rattle.icmpv6.specs.Head.{decodeOf, encodeOf, headerTold, fieldsAt}
-use Rattle.icmpv6_payload_slice.specs.Dispatch.{kindOf, payloadOf, byValue, byBytes}
+use Rattle.icmpv6_payload_slice.specs.Dispatch.{kindOf, optionsAt, payloadOf, byValue, byBytes}
 use Rattle.icmpv6_payload_slice.proofs.Laws.{whole, known-pair}
 
 -- the kind of a value that was read
@@ -41,14 +41,35 @@ decoded-fits n x v = by (ltb n 8) (ltb limit n) refl refl
     by false true e f q = absurd (let z : _≡_ {A = ℕ} 2 0 = ap (λ (p : Paper). p .number) q in omega arith)
     by false false e f q = record { low = ltb-false n 8 e; high = ltb-false limit n f }
 
--- on decoded values the two agree: kind, place and refusal
-pub agree : (p : List ℕ) (h : Icmpv6Header) → decodeOf p ≡ gives (headerTold h) → byBytes p ≡ byValue (h .«icmp_type») (drop 8 p)
+-- what is told of the payload alone, told of the packet: both places move by the head
+abbrev pub behindHead : Paper → Paper
+behindHead q = cond (eqb (q .number) 0) (gives ((8 + getD (q .values) 0 0) ∷ (8 + getD (q .values) 1 0) ∷ drop 2 (q .values))) q
+
+-- a dispatch of a packet is that of its payload, with the places moved
+pub moved : (k : ℕ) (p : List ℕ) → 8 ≤ length p → payloadOf 8 k p ≡ behindHead (payloadOf 0 k (drop 8 p))
+unfolding payloadOf
+moved k p h =
+    let all : length (drop 8 p) ≡ length p - 8 = length-drop 8 p in
+    let present : length (drop 8 p) - 0 ≡ length p - 8 = omega (arith, all) in
+    let first : 0 + fixedLen k ≡ fixedLen k = omega arith in
+    rw (present, all, first) (by (ltb (length p - 8) (fixedLen k)) (isNdp k))
+  where
+    by : (a b : Bool) →
+        cond a (refuses 4 (fixedLen k ∷ (length p - 8) ∷ [])) (gives (8 ∷ cond b (8 + fixedLen k) (length p) ∷ kindOf k (drop 8 p)))
+        ≡ behindHead (cond a (refuses 4 (fixedLen k ∷ (length p - 8) ∷ [])) (gives (0 ∷ cond b (fixedLen k) (length p - 8) ∷ kindOf k (drop 8 p))))
+    by true b = refl
+    by false true = refl
+    by false false = let e : 8 + (length p - 8) ≡ length p = omega arith in rw e
+
+-- on decoded values the two agree: kind, parts and refusal
+pub agree : (p : List ℕ) (h : Icmpv6Header) → decodeOf p ≡ gives (headerTold h) → byBytes p ≡ behindHead (byValue (h .«icmp_type») (drop 8 p))
 unfolding decodeOf byBytes
 agree p h e =
     let fits = decoded-fits (length p) _ (headerTold h) e in
     let told = sym (ap (λ (x : Paper). drop 1 (x .values)) (sym (sized-fits (length p) (fits .low) (fits .high) _) ∙ e)) in
     sized-fits (length p) (fits .low) (fits .high) _
-    ∙ ap (λ (k : ℕ). payloadOf k (drop 8 p)) (sym (kind-read (getD p 0 0) (getD p 1 0) (fieldsAt p) (h .«icmp_type») told))
+    ∙ ap (λ (k : ℕ). payloadOf 8 k p) (sym (kind-read (getD p 0 0) (getD p 1 0) (fieldsAt p) (h .«icmp_type») told))
+    ∙ moved (kindNumber (h .«icmp_type»)) p (fits .low)
 
 -- a type that has some code has code 0
 known-0 : (k c : ℕ) → known k c ≡ true → known k 0 ≡ true
@@ -56,15 +77,22 @@ unfolding known
 known-0 k c e = let l = ltb-true c (rowOf rows k .codes) e in lt-ltb 0 (rowOf rows k .codes) (omega arith)
 
 -- an Unknown is Raw by its value, whatever it names
-pub unknown-raw : (k c w : ℕ) (s : List ℕ) → byValue (Unknown k c w) s ≡ gives (0 ∷ 0 ∷ [])
+pub unknown-raw : (k c w : ℕ) (s : List ℕ) → byValue (Unknown k c w) s ≡ gives (0 ∷ length s ∷ 0 ∷ [])
 unfolding fixedLen known
-unknown-raw k c w s = whole 0 s (omega arith)
+unknown-raw k c w s = whole 0 0 s (omega arith)
 
--- and where it names a known pair, its bytes are of the structured kind, which is not Raw
-module _ (k c w sum : ℕ) (s : List ℕ) (named : known k c ≡ true) (present : fixedLen k ≤ length s) (room : length s ≤ 4294967287) where
-  pub misnamed-structured : (byBytes (encodeOf (record { «icmp_type» = Unknown k c w; checksum = sum }) ++ s) ≡ gives (fixedLen k ∷ kindOf k s)) × (getD (kindOf k s) 0 0 ≡ k) × (k ≡ 0 → ⊥)
-  misnamed-structured = (
-    known-pair (encodeOf (record { «icmp_type» = Unknown k c w; checksum = sum }) ++ s) (record { low = omega arith; high = omega arith }) named ∙ whole k s present,
+-- and where it names a known pair, its bytes are dispatched as that pair's, whatever stands behind the head
+module _ (k c w sum : ℕ) (s : List ℕ) (named : known k c ≡ true) (room : length s ≤ 4294967287) where
+  abbrev packet : List ℕ
+  packet = encodeOf (record { «icmp_type» = Unknown k c w; checksum = sum }) ++ s
+
+  pub misnamed-dispatched : byBytes packet ≡ payloadOf 8 k packet
+  misnamed-dispatched = known-pair packet (record { low = omega arith; high = omega arith }) named
+
+  -- so where the fixed part is there they are of the structured kind, which is not Raw
+  pub misnamed-structured : fixedLen k ≤ length s → (byBytes packet ≡ gives (8 ∷ optionsAt 8 k (length packet) ∷ kindOf k s)) × (getD (kindOf k s) 0 0 ≡ k) × (k ≡ 0 → ⊥)
+  misnamed-structured present = (
+    misnamed-dispatched ∙ whole 8 k packet (omega arith),
     rw (known-0 k c named),
     λ e. not-0 (view k c named) (sym e),
   )

@@ -1,4 +1,4 @@
--- Document 01's case P14 by both dispatches, and one of each other answer: one table, one statement, by computation.
+-- Case P14 by both dispatches, and one of each other answer: one table, one statement, by computation.
 -- Assumes nothing.
 use Prim.Native.Nat.{ℕ}
 use mathlib.Core.Path.{_≡_, refl}
@@ -30,18 +30,20 @@ cases =
     case (byBytes (packet 135 0 (zeros 15))) (refuses 4 (16 ∷ 15 ∷ []))
     ∷ case (byValue NeighborSolicitation (zeros 15)) (refuses 4 (16 ∷ 15 ∷ []))
     -- one byte more; another code; the Unknown that names the pair
-    ∷ case (byBytes (packet 135 0 (zeros 16))) (gives (16 ∷ 135 ∷ []))
-    ∷ case (byBytes (packet 135 1 (zeros 15))) (gives (0 ∷ 0 ∷ []))
-    ∷ case (byValue (Unknown 135 0 0) (zeros 15)) (gives (0 ∷ 0 ∷ []))
+    ∷ case (byBytes (packet 135 0 (zeros 16))) (gives (8 ∷ 24 ∷ 135 ∷ []))
+    ∷ case (byBytes (packet 135 1 (zeros 15))) (gives (8 ∷ 23 ∷ 0 ∷ []))
+    ∷ case (byValue (Unknown 135 0 0) (zeros 15)) (gives (0 ∷ 15 ∷ 0 ∷ []))
     -- the other fixed parts
-    ∷ case (byBytes (packet 133 0 [])) (gives (0 ∷ 133 ∷ []))
-    ∷ case (byBytes (packet 134 0 (0 ∷ 0 ∷ 1 ∷ 0 ∷ 0 ∷ 0 ∷ 0 ∷ 2 ∷ []))) (gives (8 ∷ 134 ∷ 256 ∷ 2 ∷ []))
+    ∷ case (byBytes (packet 133 0 [])) (gives (8 ∷ 8 ∷ 133 ∷ []))
+    ∷ case (byBytes (packet 134 0 (0 ∷ 0 ∷ 1 ∷ 0 ∷ 0 ∷ 0 ∷ 0 ∷ 2 ∷ []))) (gives (8 ∷ 16 ∷ 134 ∷ 256 ∷ 2 ∷ []))
     ∷ case (byBytes (packet 134 0 (zeros 7))) (refuses 4 (8 ∷ 7 ∷ []))
     ∷ case (byValue Redirect (zeros 31)) (refuses 4 (32 ∷ 31 ∷ []))
+    ∷ case (byValue Redirect (zeros 40)) (gives (0 ∷ 32 ∷ 137 ∷ []))
+    ∷ case (byBytes (packet 136 0 (zeros 24))) (gives (8 ∷ 24 ∷ 136 ∷ []))
     -- no fixed part; a type that is not known; a packet without a head
-    ∷ case (byBytes (packet 1 6 [])) (gives (0 ∷ 1 ∷ []))
-    ∷ case (byBytes (packet 1 7 [])) (gives (0 ∷ 0 ∷ []))
-    ∷ case (byBytes (packet 200 0 (zeros 3))) (gives (0 ∷ 0 ∷ []))
+    ∷ case (byBytes (packet 1 6 [])) (gives (8 ∷ 8 ∷ 1 ∷ []))
+    ∷ case (byBytes (packet 1 7 [])) (gives (8 ∷ 8 ∷ 0 ∷ []))
+    ∷ case (byBytes (packet 200 0 (zeros 3))) (gives (8 ∷ 11 ∷ 0 ∷ []))
     ∷ case (byBytes (135 ∷ zeros 6)) (refuses 1 (8 ∷ 7 ∷ []))
     ∷ []
 

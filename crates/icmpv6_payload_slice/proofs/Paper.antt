@@ -48,7 +48,7 @@ kind-back Redirect = refl
 
 abbrev readFrom : Paper → PayloadRead
 readFrom p =
-    cond (eqb (p .number) 0) (Payload (record { kind = kindFrom (drop 1 (p .values)); «options_at» = getD (p .values) 0 0 }))
+    cond (eqb (p .number) 0) (Payload (record { kind = kindFrom (drop 2 (p .values)); «payload_at» = getD (p .values) 0 0; «options_at» = getD (p .values) 1 0 }))
     (Refused (refusalOf p))
 
 read-back : (r : PayloadRead) → readFrom (readTold r) ≡ r

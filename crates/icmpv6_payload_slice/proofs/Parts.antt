@@ -1,4 +1,5 @@
--- The parts of a payload whose fixed part is there, put together, are the payload: nothing is left out and nothing stands in two parts.
+-- The parts of a payload whose fixed part is there, put together, are the payload: nothing is left out and nothing stands in two parts. The parts of
+-- a packet are those of its payload.
 -- Assumes nothing.
 use Prim.Native.Nat.{ℕ, suc, _<_, _≤_}
 use mathlib.Core.Path.{_≡_, refl, sym, ap, _∙_}
@@ -13,7 +14,8 @@ use Rattle.message_table.specs.Table.{fixedLen}
 use Rattle.icmpv6_payload.specs.declared.router_advertisement_payload.RouterAdvertisementPayload.{RouterAdvertisementPayload}
 use Rattle.icmpv6_payload.specs.Owned.{timersIn, timersTold, timersBytes}
 use Rattle.icmpv6_payload.proofs.RoundTrip.{timers-read}
-use Rattle.icmpv6_payload_slice.specs.Parts.{addressPart, optionsPart}
+use Rattle.icmpv6_payload_slice.specs.Parts.{addressPart}
+use Rattle.icmpv6_payload_slice.specs.Dispatch.{optionsIn}
 
 -- the kinds whose fixed part is addresses alone
 pub data Addressed : ℕ → Type 0 where
@@ -26,7 +28,7 @@ one-address : (s : List ℕ) → 16 ≤ length s → cond (ltb (length s) 16) []
 one-address s h = simp (le-ltb (length s) 16 h, append-nil) (take-append-drop 16 s)
 
 pub addressed-whole : {k : ℕ} → Addressed k → (s : List ℕ) → fixedLen k ≤ length s →
-    addressPart 0 k s ++ addressPart 1 k s ++ optionsPart k (fixedLen k) s ≡ s
+    addressPart 0 0 k s ++ addressPart 0 1 k s ++ optionsIn 0 k s ≡ s
 unfolding fixedLen
 addressed-whole routerSolicitation s h = refl
 addressed-whole neighborSolicitation s h = one-address s h
@@ -41,7 +43,7 @@ module _ (s : List ℕ) (bytes : (i : ℕ) → getD s i 0 < 256) (h : 8 ≤ leng
   at : (i : ℕ) → i < 8 → getD s i 0 ∷ drop (suc i) s ≡ drop i s
   at i l = sym (drop-cons s i 0 (omega arith))
 
-  pub timers-whole : (p : RouterAdvertisementPayload) → timersTold p ≡ timersIn s → timersBytes p ++ optionsPart 134 (fixedLen 134) s ≡ s
+  pub timers-whole : (p : RouterAdvertisementPayload) → timersTold p ≡ timersIn s → timersBytes p ++ optionsIn 0 134 s ≡ s
   unfolding fixedLen
   timers-whole p read =
       ap (λ (l : List ℕ). l ++ drop 8 s) (timers-read s bytes p read)

@@ -10,7 +10,6 @@ use Rattle.icmpv6_payload_slice.proofs.Icmpv6PayloadSlice.from_slice as
 use Rattle.icmpv6_payload_slice.proofs.Icmpv6PayloadSlice.from_packet as from-packet
 use Rattle.icmpv6_payload_slice.proofs.Icmpv6PayloadSlice.target_address as target-address
 use Rattle.icmpv6_payload_slice.proofs.Icmpv6PayloadSlice.destination_address as destination-address
-use Rattle.icmpv6_payload_slice.proofs.Icmpv6PayloadSlice.options as options
 
 pub type-u8-unique : Only type-u8.ended (λ M 𝓤. type-u8.clauses 𝓤)
 type-u8-unique M 𝓤 H A m f κs a g x y v w = one 𝓤 (λ p q. (p ∙ sym q, refl))
@@ -26,6 +25,3 @@ target-address-unique M 𝓤 H A m f κs a g x y v w = one 𝓤 (λ p q. (p ∙ 
 
 pub destination-address-unique : OnlyBy destination-address.ended (λ κs. now) (λ M 𝓤. destination-address.clauses 𝓤)
 destination-address-unique M 𝓤 H A m f κs a g x y v w = one 𝓤 (λ p q. (p ∙ sym q, refl))
-
-pub options-unique : OnlyBy options.ended (λ κs. now) (λ M 𝓤. options.clauses 𝓤)
-options-unique M 𝓤 H A m f κs a g x y v w = one 𝓤 (λ p q. (p ∙ sym q, refl))

@@ -1,14 +1,15 @@
--- Document 01, "The eight-byte head": a payload by its type. Refusal 4 where it is shorter than the type's fixed part, counted from the
--- payload's first byte.
+-- What a message is and where its parts are (RFC 4443, section 2.1; RFC 4861, sections 4.1 to 4.5), by its kind. Every layer that opens a
+-- message goes by this page. `base` is the place of the payload in the bytes that are given: 0 of a payload alone, 8 of a packet, whose head
+-- stands before it. Places count from the first of the bytes that are given; the numbers of refusal 4 count from the payload's first byte.
 -- Assumes nothing.
-use Prim.Native.Nat.{ℕ}
+use Prim.Native.Nat.{ℕ, _+_, _-_}
 use mathlib.Core.Bool.{cond}
 use mathlib.Core.List.{List, [], _∷_}
 use lib.Dec.{eqb, ltb}
 use lib.ListN.{length, getD, drop}
 use Rattle.paper.specs.Paper.{Paper, refuses, gives}
 use Rattle.refusal.specs.Paper.{refusal}
-use Rattle.message_table.specs.Table.{known, fixedLen}
+use Rattle.message_table.specs.Table.{known, fixedLen, isNdp}
 use Rattle.packet_length.specs.Length.{sized}
 use Rattle.icmpv6_type.specs.declared.Icmpv6Type.{Icmpv6Type}
 use Rattle.icmpv6_type.specs.Value as value
@@ -22,20 +23,31 @@ use Rattle.icmpv6_payload.specs.Owned.{timersIn, timersTold}
 abbrev pub kindOf : ℕ → List ℕ → List ℕ
 kindOf k s = cond (known k 0) (k ∷ cond (eqb k 134) (timersIn s) []) (0 ∷ [])
 
--- the place behind the fixed part, and the kind
-unfoldable pub payloadOf : ℕ → List ℕ → Paper
-payloadOf k s = cond (ltb (length s) (fixedLen k)) (refuses 4 (fixedLen k ∷ length s ∷ [])) (gives (fixedLen k ∷ kindOf k s))
+-- where the options are: behind the fixed part of a message of Neighbor Discovery; another kind has none, and they are told at its end
+abbrev pub optionsAt : ℕ → ℕ → ℕ → ℕ
+optionsAt base k n = cond (isNdp k) (base + fixedLen k) n
 
--- by the value of the head: its kind, which is 0 where it is Unknown
+-- the option bytes
+abbrev pub optionsIn : ℕ → ℕ → List ℕ → List ℕ
+optionsIn base k s = drop (optionsAt base k (length s)) s
+
+-- the place of the payload, that of the options, and the kind; refusal 4 where the fixed part is not all there
+unfoldable pub payloadOf : ℕ → ℕ → List ℕ → Paper
+payloadOf base k s =
+    let present = length s - base in
+    cond (ltb present (fixedLen k)) (refuses 4 (fixedLen k ∷ present ∷ []))
+    (gives (base ∷ optionsAt base k (length s) ∷ kindOf k (drop base s)))
+
+-- by the value of a head and the payload: its kind, which is 0 where it is Unknown
 abbrev pub byValue : Icmpv6Type → List ℕ → Paper
-byValue t s = payloadOf (value.kindNumber t) s
+byValue t s = payloadOf 0 (value.kindNumber t) s
 
 -- by the bytes of a packet: its type, where the table has it with its code
 abbrev pub kindAt : List ℕ → ℕ
 kindAt p = cond (known (getD p 0 0) (getD p 1 0)) (getD p 0 0) 0
 
 unfoldable pub byBytes : List ℕ → Paper
-byBytes p = sized (length p) (payloadOf (kindAt p) (drop 8 p))
+byBytes p = sized (length p) (payloadOf 8 (kindAt p) p)
 
 abbrev pub kindTold : Icmpv6PayloadKind → List ℕ
 kindTold Raw = 0 ∷ []
@@ -55,5 +67,5 @@ abbrev pub kindNumber : Icmpv6PayloadKind → ℕ
 kindNumber k = getD (kindTold k) 0 0
 
 abbrev pub readTold : PayloadRead → Paper
-readTold (Payload p) = gives (p .«options_at» ∷ kindTold (p .kind))
+readTold (Payload p) = gives (p .«payload_at» ∷ p .«options_at» ∷ kindTold (p .kind))
 readTold (Refused r) = refusal r

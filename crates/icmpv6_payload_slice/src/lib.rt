@@ -1,11 +1,12 @@
-// Dispatch of a payload by the value of its head or by the bytes of its packet. Port of icmpv6_payload_slice/mod.rs.
+// What a message is and where its parts are: dispatch of a payload by the value of its head, or of a packet by its bytes. Port of
+// icmpv6_payload_slice/mod.rs. Receive check, listing, writer and the calls for C open a message here and nowhere else.
 ghost use mathlib.Core.Path.{_≡_};
-ghost use Prim.Native.Nat.{_<_, _≤_};
-ghost use lib.ListN.{length};
-ghost use Rattle.message_table.specs.Table.{fixedLen};
-ghost use Rattle.icmpv6_payload_slice.specs.Dispatch.{kindOf, kindTold, kindNumber, readTold, payloadOf, byValue, byBytes};
-ghost use Rattle.icmpv6_payload_slice.specs.Parts.{addresses, addressPart, optionsPart};
-use icmpv6::icmpv6_slice;
+ghost use Prim.Native.Nat.{_+_, _<_, _≤_};
+ghost use lib.ListN.{length, drop};
+ghost use mathlib.Core.Bool.{cond};
+ghost use Rattle.message_table.specs.Table.{fixedLen, isNdp};
+ghost use Rattle.icmpv6_payload_slice.specs.Dispatch.{kindOf, kindTold, kindNumber, readTold, payloadOf, kindAt, byValue, byBytes};
+ghost use Rattle.icmpv6_payload_slice.specs.Parts.{addresses, addressPart};
 use icmpv6_payload::router_advertisement_payload::RouterAdvertisementPayload;
 use icmpv6_type::Icmpv6Type;
 use packet_length::PacketLength;
@@ -27,9 +28,12 @@ pub enum Icmpv6PayloadKind {
     Redirect,
 }
 
-// A payload that was dispatched: its kind, and the place of the first byte behind its fixed part. The bytes stay the caller's.
+// A message that was dispatched: its kind, the place of its payload, and that of its options, which are the bytes from there to the end (none of a
+// kind that has no options). Places count from the first of the bytes that were dispatched, which stay the caller's. Walk the options by a
+// `Cursor` at `options_at` over the same bytes: over fewer bytes it answers Stopped, and never the end of a list.
 pub struct Icmpv6PayloadSlice {
     pub kind: Icmpv6PayloadKind,
+    pub payload_at: usize,
     pub options_at: usize,
 }
 
@@ -40,6 +44,9 @@ pub enum PayloadRead {
 
 // A number that no message type has: what is not in the table is Raw.
 const RAW: u8 = 0;
+
+// The length of the head.
+const HEAD_LEN: usize = 8;
 
 // The length of an IPv6 address.
 const IPV6_ADDRESS_LEN: usize = 16;
@@ -74,19 +81,44 @@ fn kind_of(type_u8: u8, payload: &[u8]) -> Icmpv6PayloadKind
     }
 }
 
-// The payload of a type: Raw of one that the table does not have.
-fn from_type(type_u8: u8, payload: &[u8]) -> PayloadRead
-    ensures { λ r. ⌜ readTold r ≡ payloadOf «type_u8» (now (payload .entry)) ⌝ }
+// The place of the options of a type, in bytes that have its fixed part.
+fn options_place(type_u8: u8, fixed_end: usize, length: usize) -> usize
+    ensures { λ r. ⌜ r ≡ cond (isNdp «type_u8») «fixed_end» length ⌝ }
+{
+    if message_table::is_ndp(type_u8) {
+        fixed_end
+    } else {
+        length
+    }
+}
+
+// The message of a type whose payload begins at a place: Raw of a type that the table does not have.
+fn from_type(type_u8: u8, bytes: &[u8], payload_at: usize) -> PayloadRead
+    requires { ⌜ «payload_at» ≤ length (now bytes) ⌝ }
+    ensures { λ r. ⌜ readTold r ≡ payloadOf «payload_at» «type_u8» (now (bytes .entry)) ⌝ }
 {
     let needed = message_table::fixed_len(type_u8);
-    let present = payload.len();
+    let present = bytes.len() - payload_at;
     if present < needed {
         return PayloadRead::Refused(Refusal::ShortFixedPart { needed, present });
     }
     PayloadRead::Payload(Icmpv6PayloadSlice {
-        kind: kind_of(type_u8, payload),
-        options_at: needed,
+        kind: kind_of(type_u8, &bytes[payload_at..]),
+        payload_at,
+        options_at: options_place(type_u8, payload_at + needed, bytes.len()),
     })
+}
+
+// The type of a packet where the table has it with the packet's code; else 0.
+fn kind_at(packet: &[u8]) -> u8
+    requires { ⌜ 8 ≤ length (now packet) ⌝ }
+    ensures { λ r. ⌜ r ≡ kindAt (now (packet .entry)) ⌝ }
+{
+    if message_table::is_known(packet[0], packet[1]) {
+        packet[0]
+    } else {
+        RAW
+    }
 }
 
 // How many addresses the fixed part of a type has: target, then destination.
@@ -101,20 +133,24 @@ fn address_count(type_u8: u8) -> usize
     }
 }
 
-// An address of the fixed part, by its number; no bytes where there is none or the payload is too short for it.
-fn address(type_u8: u8, payload: &[u8], i: usize) -> &[u8]
+// An address of the fixed part, by its number; no bytes where there is none or the bytes are too few for it.
+fn address(type_u8: u8, bytes: &[u8], payload_at: usize, i: usize) -> &[u8]
     requires { ⌜ i < 2 ⌝ }
-    ensures { λ r. ⌜ now r ≡ addressPart i «type_u8» (now (payload .entry)) ⌝ }
+    ensures { λ r. ⌜ now r ≡ addressPart «payload_at» i «type_u8» (now (bytes .entry)) ⌝ }
 {
-    let from = IPV6_ADDRESS_LEN * i;
-    let end = from + IPV6_ADDRESS_LEN;
     if address_count(type_u8) <= i {
-        return &payload[..0];
+        return &bytes[..0];
     }
-    if payload.len() < end {
-        return &payload[..0];
+    if bytes.len() < payload_at {
+        return &bytes[..0];
     }
-    &payload[from..end]
+    let skipped = IPV6_ADDRESS_LEN * i;
+    if bytes.len() - payload_at < skipped + IPV6_ADDRESS_LEN {
+        return &bytes[..0];
+    }
+    let from = payload_at + skipped;
+    let end = from + IPV6_ADDRESS_LEN;
+    &bytes[from..end]
 }
 
 impl Icmpv6PayloadKind {
@@ -140,59 +176,37 @@ impl Icmpv6PayloadKind {
 }
 
 impl Icmpv6PayloadSlice {
-    // By the value of the head: an Unknown is Raw, whatever pair it names.
+    // By the value of the head and the payload: an Unknown is Raw, whatever pair it names. Places count from the payload's first byte.
     pub fn from_slice(icmp_type: Icmpv6Type, payload: &[u8]) -> PayloadRead
         ensures { λ r. ⌜ readTold r ≡ byValue «icmp_type» (now (payload .entry)) ⌝ }
     {
-        from_type(icmp_type.kind_u8(), payload)
+        from_type(icmp_type.kind_u8(), payload, 0)
     }
 
-    // By the bytes of a packet: its type and code. Places count from the payload's first byte.
+    // By the bytes of a packet: its type and code. Places count from the packet's first byte.
     pub fn from_packet(packet: &[u8]) -> PayloadRead
         ensures { λ r. ⌜ readTold r ≡ byBytes (now (packet .entry)) ⌝ }
     {
         match packet_length::check_len(packet.len()) {
             PacketLength::Refused(why) => PayloadRead::Refused(why),
-            PacketLength::Fits => {
-                let payload = icmpv6_slice::payload(packet);
-                if message_table::is_known(packet[0], packet[1]) {
-                    from_type(packet[0], payload)
-                } else {
-                    from_type(RAW, payload)
-                }
-            }
+            PacketLength::Fits => from_type(kind_at(packet), packet, HEAD_LEN),
         }
     }
 
-    // The target of a neighbor solicitation, a neighbor advertisement or a redirect: 16 bytes, and none of another kind.
-    pub fn target_address(self, payload: &[u8]) -> &[u8]
-        ensures { λ r. ⌜ now r ≡ addressPart 0 (kindNumber (self .kind)) (now (payload .entry)) ⌝ }
+    // The target of a neighbor solicitation, a neighbor advertisement or a redirect, in the bytes that were dispatched: 16 bytes, and none of another
+    // kind.
+    pub fn target_address(self, bytes: &[u8]) -> &[u8]
+        ensures { λ r. ⌜ now r ≡ addressPart (self .«payload_at») 0 (kindNumber (self .kind)) (now (bytes .entry)) ⌝ }
     {
         let kind = self.kind;
-        address(kind.type_u8(), payload, 0)
+        address(kind.type_u8(), bytes, self.payload_at, 0)
     }
 
-    // The destination of a redirect: 16 bytes, and none of another kind.
-    pub fn destination_address(self, payload: &[u8]) -> &[u8]
-        ensures { λ r. ⌜ now r ≡ addressPart 1 (kindNumber (self .kind)) (now (payload .entry)) ⌝ }
+    // The destination field of a redirect: 16 bytes, and none of another kind.
+    pub fn destination_address(self, bytes: &[u8]) -> &[u8]
+        ensures { λ r. ⌜ now r ≡ addressPart (self .«payload_at») 1 (kindNumber (self .kind)) (now (bytes .entry)) ⌝ }
     {
         let kind = self.kind;
-        address(kind.type_u8(), payload, 1)
-    }
-
-    // The options behind the fixed part; none of a kind that has no options.
-    pub fn options(self, payload: &[u8]) -> &[u8]
-        ensures { λ r. ⌜ now r ≡ optionsPart (kindNumber (self .kind)) (self .«options_at») (now (payload .entry)) ⌝ }
-    {
-        let kind = self.kind;
-        let at = self.options_at;
-        let type_u8 = kind.type_u8();
-        if !message_table::is_ndp(type_u8) {
-            return &payload[..0];
-        }
-        if payload.len() < at {
-            return &payload[..0];
-        }
-        &payload[at..]
+        address(kind.type_u8(), bytes, self.payload_at, 1)
     }
 }

@@ -1,7 +1,10 @@
--- `from_type` meets its contract: the fixed part is tested, and its length is the place behind it.
+-- `from_type` meets its contract: the fixed part is tested, and the options are placed behind it.
 -- Assumes nothing.
-use mathlib.Core.Path.{sym}
+use mathlib.Core.Path.{_≡_, sym, ap, _∙_}
 use denote.Ref.{now}
+use lib.ListN.{length, drop, length-drop}
+use native.Mathlib.Omega.{arith}
+use Rattle.paper.proofs.Rest.{rest-is}
 use Rattle.icmpv6_payload_slice.proofs.Laws.{short, whole}
 use borrow.Author.Needs.{needs}
 use Rattle.icmpv6_payload_slice.proofs.from_type.Statement.{statement}
@@ -10,14 +13,51 @@ use Rattle.icmpv6_payload_slice.proofs.from_type.Tie as tie
 fixed-len-requires : tie.Need-fixed-len-requires
 fixed-len-requires c κs = search needs
 
+sub-present : tie.Need-sub-present
+sub-present c = search needs
+
 returns : tie.Need-returns
-returns c = let n = c .before .fixed-len .ensures in let a = c .before .before .before .args in rw n (sym (short (a .type-u8) (now (a .payload)) (rw n at (c .if1 .taken))))
+returns c =
+    let n = c .before .fixed-len .ensures in
+    let a = c .before .before .before .args in
+    rw n (sym (short (a .payload-at) (a .type-u8) (now (a .bytes)) (rw n at (c .if1 .taken))))
+
+sub-kind-of : tie.Need-sub-kind-of
+sub-kind-of c = search needs
+
+part-kind-of-start : tie.Need-part-kind-of-start
+part-kind-of-start c = search needs
+
+part-kind-of-end : tie.Need-part-kind-of-end
+part-kind-of-end c = search needs
 
 kind-of-requires : tie.Need-kind-of-requires
-kind-of-requires c κs = rw (c .before .fixed-len .ensures) at (c .if1 .left)
+kind-of-requires c κs = rw (rest-is, length-drop, ← (c .before .before .fixed-len .ensures)) (c .before .if1 .left)
+
+add-options-place : tie.Need-add-options-place
+add-options-place c = search needs
+
+options-place-requires : tie.Need-options-place-requires
+options-place-requires c κs = search needs
 
 returns-2 : tie.Need-returns-2
-returns-2 c = let n = c .before .before .fixed-len .ensures in let a = c .before .before .before .before .args in rw (n, c .kind-of .ensures) (sym (whole (a .type-u8) (now (a .payload)) (rw n at (c .before .if1 .left))))
+returns-2 c =
+    let a = c .before .before .before .before .before .before .args in
+    let n = c .before .before .before .before .fixed-len .ensures in
+    rw (c .options-place .ensures, n, c .before .kind-of .ensures, rest-is)
+    (sym (whole (a .payload-at) (a .type-u8) (now (a .bytes)) (rw n at (c .before .before .before .if1 .left))))
 
 pub from-type-spec : {M : Type 1} → statement M
-from-type-spec = tie.close (tie.spec fixed-len-requires returns kind-of-requires returns-2)
+from-type-spec =
+    tie.close
+    (tie.spec
+    fixed-len-requires
+    sub-present
+    returns
+    sub-kind-of
+    part-kind-of-start
+    part-kind-of-end
+    kind-of-requires
+    add-options-place
+    options-place-requires
+    returns-2)
