@@ -8,9 +8,9 @@ use mathlib.Core.List.{List, [], _∷_, _++_}
 use native.Mathlib.Omega.{arith}
 use lib.Dec.{eqb, ltb}
 use lib.ListN.{length, getD, drop, length-drop}
-use borrow.Author.Tests.{ltb-true, ltb-false, lt-ltb}
+use borrow.Author.Tests.{ltb-false}
 use Rattle.paper.specs.Paper.{Paper, refuses, gives}
-use Rattle.message_table.specs.Table.{rows, rowOf, known, fixedLen, isNdp}
+use Rattle.message_table.specs.Table.{known, fixedLen, isNdp}
 use Rattle.message_table.proofs.View.{view, not-0}
 use Rattle.packet_length.specs.Length.{limit, sized}
 use Rattle.packet_length.proofs.Laws.{Between, sized-fits}
@@ -21,6 +21,7 @@ use Rattle.icmpv6.specs.declared.icmpv6_header.Icmpv6Header.{Icmpv6Header}
 use Rattle.icmpv6.specs.Head.{decodeOf, encodeOf, headerTold, fieldsAt}
 use Rattle.icmpv6_payload_slice.specs.Dispatch.{kindOf, optionsAt, payloadOf, byValue, byBytes}
 use Rattle.icmpv6_payload_slice.proofs.Laws.{whole, known-pair}
+use Rattle.icmpv6_payload_slice.proofs.Opened.{known-0}
 
 -- the kind of a value that was read
 kind-read : (k c : ℕ) (b : List ℕ) (t : Icmpv6Type) → typeTold t ≡ typeOf k c b → kindNumber t ≡ cond (known k c) k 0
@@ -70,11 +71,6 @@ agree p h e =
     sized-fits (length p) (fits .low) (fits .high) _
     ∙ ap (λ (k : ℕ). payloadOf 8 k p) (sym (kind-read (getD p 0 0) (getD p 1 0) (fieldsAt p) (h .«icmp_type») told))
     ∙ moved (kindNumber (h .«icmp_type»)) p (fits .low)
-
--- a type that has some code has code 0
-known-0 : (k c : ℕ) → known k c ≡ true → known k 0 ≡ true
-unfolding known
-known-0 k c e = let l = ltb-true c (rowOf rows k .codes) e in lt-ltb 0 (rowOf rows k .codes) (omega arith)
 
 -- an Unknown is Raw by its value, whatever it names
 pub unknown-raw : (k c w : ℕ) (s : List ℕ) → byValue (Unknown k c w) s ≡ gives (0 ∷ length s ∷ 0 ∷ [])

@@ -11,28 +11,24 @@ use borrow.Author.Tests.{lt-ltb, le-ltb, ltb-true, ltb-false}
 use Rattle.paper.specs.Paper.{Paper, refuses, gives}
 use Rattle.message_table.specs.Table.{known, fixedLen, isNdp}
 use Rattle.packet_length.proofs.Laws.{Between, sized-fits, behind}
-use Rattle.icmpv6_payload_slice.specs.Dispatch.{kindOf, optionsAt, payloadOf, kindAt, byBytes}
-
--- the answer where the fixed part is there
-abbrev pub opened : ℕ → ℕ → List ℕ → Paper
-opened base k s = gives (base ∷ optionsAt base k (length s) ∷ kindOf k (drop base s))
+use Rattle.icmpv6_payload_slice.specs.Dispatch.{kindOf, optionsAt, partsOf, payloadOf, kindAt, byBytes}
 
 module _ (base k : ℕ) (s : List ℕ) where
   pub short : length s - base < fixedLen k → payloadOf base k s ≡ refuses 4 (fixedLen k ∷ (length s - base) ∷ [])
   unfolding payloadOf
   short h = simp (lt-ltb (length s - base) (fixedLen k) h)
 
-  pub whole : fixedLen k ≤ length s - base → payloadOf base k s ≡ opened base k s
+  pub whole : fixedLen k ≤ length s - base → payloadOf base k s ≡ partsOf base k s
   unfolding payloadOf
   whole h = simp (le-ltb (length s - base) (fixedLen k) h)
 
   -- an answer that is not refusal 4 is given where the fixed part is there
-  pub not-short : (q : Paper) → (q .number ≡ 4 → ⊥) → payloadOf base k s ≡ q → (fixedLen k ≤ length s - base) × (q ≡ opened base k s)
+  pub not-short : (q : Paper) → (q .number ≡ 4 → ⊥) → payloadOf base k s ≡ q → (fixedLen k ≤ length s - base) × (q ≡ partsOf base k s)
   unfolding payloadOf
   not-short q n = by (ltb (length s - base) (fixedLen k)) refl
     where
-      by : (b : Bool) → ltb (length s - base) (fixedLen k) ≡ b → cond b (refuses 4 (fixedLen k ∷ (length s - base) ∷ [])) (opened base k s) ≡ q
-          → (fixedLen k ≤ length s - base) × (q ≡ opened base k s)
+      by : (b : Bool) → ltb (length s - base) (fixedLen k) ≡ b → cond b (refuses 4 (fixedLen k ∷ (length s - base) ∷ [])) (partsOf base k s) ≡ q
+          → (fixedLen k ≤ length s - base) × (q ≡ partsOf base k s)
       by true e g = absurd (n (sym (ap (λ (p : Paper). p .number) g)))
       by false e g = (ltb-false (length s - base) (fixedLen k) e, sym g)
 
@@ -41,10 +37,19 @@ module _ (base k : ℕ) (s : List ℕ) where
   unfolding payloadOf
   is-short q n = by (ltb (length s - base) (fixedLen k)) refl
     where
-      by : (b : Bool) → ltb (length s - base) (fixedLen k) ≡ b → cond b (refuses 4 (fixedLen k ∷ (length s - base) ∷ [])) (opened base k s) ≡ q
+      by : (b : Bool) → ltb (length s - base) (fixedLen k) ≡ b → cond b (refuses 4 (fixedLen k ∷ (length s - base) ∷ [])) (partsOf base k s) ≡ q
           → (length s - base < fixedLen k) × (q ≡ refuses 4 (fixedLen k ∷ (length s - base) ∷ []))
       by true e g = (ltb-true (length s - base) (fixedLen k) e, sym g)
       by false e g = absurd (n (sym (ap (λ (p : Paper). p .number) g)))
+
+  -- nothing else is answered
+  pub given-or-4 : payloadOf base k s .number ≤ 4
+  unfolding payloadOf
+  given-or-4 = by (ltb (length s - base) (fixedLen k))
+    where
+      by : (b : Bool) → cond b (refuses 4 (fixedLen k ∷ (length s - base) ∷ [])) (partsOf base k s) .number ≤ 4
+      by true = omega arith
+      by false = omega arith
 
   -- the options begin within the bytes
   pub options-within : base ≤ length s → fixedLen k ≤ length s - base → optionsAt base k (length s) ≤ length s

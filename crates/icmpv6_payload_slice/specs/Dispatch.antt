@@ -31,12 +31,15 @@ optionsAt base k n = cond (isNdp k) (base + fixedLen k) n
 abbrev pub optionsIn : ℕ → ℕ → List ℕ → List ℕ
 optionsIn base k s = drop (optionsAt base k (length s)) s
 
--- the place of the payload, that of the options, and the kind; refusal 4 where the fixed part is not all there
+-- the place of the payload, that of the options, and the kind
+abbrev pub partsOf : ℕ → ℕ → List ℕ → Paper
+partsOf base k s = gives (base ∷ optionsAt base k (length s) ∷ kindOf k (drop base s))
+
+-- refusal 4 where the fixed part is not all there
 unfoldable pub payloadOf : ℕ → ℕ → List ℕ → Paper
 payloadOf base k s =
     let present = length s - base in
-    cond (ltb present (fixedLen k)) (refuses 4 (fixedLen k ∷ present ∷ []))
-    (gives (base ∷ optionsAt base k (length s) ∷ kindOf k (drop base s)))
+    cond (ltb present (fixedLen k)) (refuses 4 (fixedLen k ∷ present ∷ [])) (partsOf base k s)
 
 -- by the value of a head and the payload: its kind, which is 0 where it is Unknown
 abbrev pub byValue : Icmpv6Type → List ℕ → Paper

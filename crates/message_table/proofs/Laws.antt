@@ -2,17 +2,17 @@
 -- ends there, and else it goes on.
 -- Assumes nothing.
 use Prim.Native.Nat.{ℕ, _+_, _<_}
-use mathlib.Core.Bool.{false}
-use mathlib.Core.Path.{_≡_, refl, sym}
-use mathlib.Core.List.{List}
+use mathlib.Core.Bool.{Bool, true, false, false≢true, cond}
+use mathlib.Core.Path.{_≡_, refl, sym, ap, _∙_}
+use mathlib.Core.List.{List, [], _∷_}
 use native.Mathlib.Omega.{arith}
 use native.Mathlib.Numerals.{add-one}
-use lib.Dec.{ltb}
+use lib.Dec.{eqb, ltb}
 use lib.ListN.{length, getD, drop}
 use lib.Seq.{drop-cons}
-use borrow.Author.Tests.{eq-eqb, ne-eqb, le-ltb}
+use borrow.Author.Tests.{eq-eqb, eqb-true, ne-eqb, le-ltb}
 use Rattle.message_table.specs.declared.Row.{Row}
-use Rattle.message_table.specs.Table.{rowOf, known, fixedLen}
+use Rattle.message_table.specs.Table.{rows, rowOf, known, fixedLen, isNdp}
 
 module _ (t : List Row) (i : ℕ) (d : Row) (k : ℕ) (within : i < length t) where
   pub hit : getD t i d .kind ≡ k → rowOf (drop i t) k ≡ getD t i d
@@ -86,3 +86,25 @@ module _ (k c : ℕ)
           ne-eqb 137 k (λ e. n137 (sym e)),
           le-ltb c 0 (omega arith),
         )
+
+-- a row of a type that is none of Neighbor Discovery has no fixed part
+abbrev Plain : List Row → Type 0
+Plain [] = Unit {0}
+Plain (r ∷ rs) = (isNdp (r .kind) ≡ false → r .fixed ≡ 0) × Plain rs
+
+plain-row : (k : ℕ) → isNdp k ≡ false → (rs : List Row) → Plain rs → rowOf rs k .fixed ≡ 0
+plain-row k out [] h = refl
+plain-row k out (r ∷ rs) h = by (eqb (r .kind) k) refl (plain-row k out rs (h .1))
+  where
+    by : (b : Bool) → eqb (r .kind) k ≡ b → rowOf rs k .fixed ≡ 0 → cond b r (rowOf rs k) .fixed ≡ 0
+    by true e on = h .0 (ap isNdp (eqb-true (r .kind) k e) ∙ out)
+    by false e on = on
+
+pub fixed-outside : (k : ℕ) → isNdp k ≡ false → fixedLen k ≡ 0
+unfolding fixedLen
+fixed-outside k out =
+    plain-row k out rows
+    (none, (none, (none, (none, (none, (none, (none, ((λ e. absurd (false≢true (sym e))), ((λ e. absurd (false≢true (sym e))), ((λ e. absurd (false≢true (sym e))), ((λ e. absurd (false≢true (sym e))), tt)))))))))))
+  where
+    none : {b : Bool} → b ≡ false → _≡_ {A = ℕ} 0 0
+    none e = refl

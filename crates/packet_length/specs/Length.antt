@@ -2,7 +2,7 @@
 -- the pseudo-header's length field hold (RFC 8200, section 8.1).
 -- Assumes nothing.
 use Prim.Native.Nat.{ℕ}
-use mathlib.Core.Bool.{cond}
+use mathlib.Core.Bool.{Bool, cond, not, _&&_}
 use mathlib.Core.List.{[], _∷_}
 use lib.Dec.{ltb}
 use Rattle.paper.specs.Paper.{Paper, refuses, gives}
@@ -12,6 +12,10 @@ use Rattle.packet_length.specs.declared.PacketLength.the-variants.{Fits,
 
 abbrev pub limit : ℕ
 limit = 4294967295
+
+-- whether a length is neither too short nor too long
+abbrev pub fits : ℕ → Bool
+fits n = not (ltb n 8) && not (ltb limit n)
 
 -- an answer that is given for a packet of n bytes only where its length allows
 unfoldable pub sized : ℕ → Paper → Paper

@@ -1,35 +1,68 @@
 -- An answer tells the number of its reason, and no reason has the number 0 of acceptance.
 -- Assumes nothing.
-use Prim.Native.Nat.{ℕ, _<_}
+use Prim.Native.Nat.{ℕ, _<_, _≤_}
 use mathlib.Core.Path.{_≡_, refl, ap}
-use mathlib.Core.Bool.{Bool, true, false, cond}
+use mathlib.Core.Bool.{Bool, true, false, false≢true, cond, not, _&&_}
 use mathlib.Core.List.{List}
 use native.Mathlib.Omega.{arith}
 use lib.Dec.{eqb}
-use lib.ListN.{getD}
-use borrow.Author.Tests.{eqb-true, eqb-false}
+use lib.ListN.{length, getD}
+use borrow.Author.Tests.{eqb-true, eqb-false, not-true}
 use Rattle.paper.specs.Paper.{Paper}
 use Rattle.message_table.specs.Table.{isNdp}
-use Rattle.receive.specs.Reasons.{Reason}
+use Rattle.packet_length.specs.Length.{fits, sized}
+use Rattle.packet_length.proofs.Laws.{Between, sized-fits, fits-or, misfit}
+use Rattle.icmpv6_payload_slice.specs.Dispatch.{payloadOf, kindAt, byBytes}
+use Rattle.icmpv6_payload_slice.proofs.Laws.{given-or-4}
+use Rattle.receive.specs.Reasons.{Reason, firstOf}
 use Rattle.receive.specs.Rules.{ownOf}
-use Rattle.receive.specs.Receive.{reasons, accepted, notReceived, answerBy}
+use Rattle.receive.specs.Receive.{optionReasons, reasons, reasonOf, notReceived, answerBy}
 use Rattle.receive.proofs.First.{Numbered}
 
-pub answer-0 : (n : ℕ) → answerBy n ≡ accepted → n ≡ 0
-answer-0 n = by (eqb n 0) refl
+-- the number of a reason is told, and no dispatch is refused 11
+pub answer-n : (packet : List ℕ) (m n : ℕ) → byBytes packet .number < 11 → answerBy packet m ≡ notReceived n → (0 < n) × (m ≡ n)
+answer-n packet m n low = by (eqb m 0) refl
   where
-    by : (b : Bool) → eqb n 0 ≡ b → cond b accepted (notReceived n) ≡ accepted → n ≡ 0
-    by true e q = eqb-true n 0 e
-    by false e q = absurd (let z : _≡_ {A = ℕ} 11 0 = ap (λ (p : Paper). p .number) q in omega arith)
-
-pub answer-n : (m n : ℕ) → answerBy m ≡ notReceived n → (0 < n) × (m ≡ n)
-answer-n m n = by (eqb m 0) refl
-  where
-    by : (b : Bool) → eqb m 0 ≡ b → cond b accepted (notReceived m) ≡ notReceived n → (0 < n) × (m ≡ n)
-    by true e q = absurd (let z : _≡_ {A = ℕ} 0 11 = ap (λ (p : Paper). p .number) q in omega arith)
+    by : (b : Bool) → eqb m 0 ≡ b → cond b (byBytes packet) (notReceived m) ≡ notReceived n → (0 < n) × (m ≡ n)
+    by true e q = absurd (let z = ap (λ (p : Paper). p .number) q in omega (arith, z, low))
     by false e q =
         let same : m ≡ n = ap (λ (p : Paper). getD (p .values) 0 0) q in
         (omega (arith, eqb-false m 0 e), same)
+
+pub answer-0 : (packet : List ℕ) (m : ℕ) → answerBy packet m .number ≡ 0 → m ≡ 0
+answer-0 packet m = by (eqb m 0) refl
+  where
+    by : (b : Bool) → eqb m 0 ≡ b → cond b (byBytes packet) (notReceived m) .number ≡ 0 → m ≡ 0
+    by true e q = eqb-true m 0 e
+    by false e q = absurd (omega (arith, q))
+
+-- what the dispatch answers has no number above 4
+pub dispatch-low : (packet : List ℕ) → byBytes packet .number ≤ 4
+unfolding byBytes
+dispatch-low packet = by (fits (length packet)) refl
+  where
+    by : (b : Bool) → fits (length packet) ≡ b → sized (length packet) (payloadOf 8 (kindAt packet) packet) .number ≤ 4
+    by true e =
+        let h = fits-or (length packet) e in
+        rw (sized-fits (length packet) (h .low) (h .high)) (given-or-4 8 (kindAt packet) packet)
+    by false e = let h = misfit (length packet) (payloadOf 8 (kindAt packet) packet) e in omega (arith, h .1)
+
+-- the hop limit is the first reason
+pub far-reason : (hops : ℕ) (source destination packet : List ℕ)
+    → (fits (length packet) && (isNdp (getD packet 0 0) && not (eqb hops 255))) ≡ true
+    → reasonOf hops source destination packet ≡ 1
+unfolding reasonOf reasons firstOf
+far-reason hops source destination packet e =
+    let far = and-right (fits (length packet)) _ e in
+    simp (and-left (fits (length packet)) _ e, and-left (isNdp (getD packet 0 0)) _ far, not-true (eqb hops 255) (and-right (isNdp (getD packet 0 0)) _ far))
+  where
+    and-left : (a b : Bool) → (a && b) ≡ true → a ≡ true
+    and-left true b e = refl
+    and-left false b e = absurd (false≢true e)
+
+    and-right : (a b : Bool) → (a && b) ≡ true → b ≡ true
+    and-right true b e = e
+    and-right false b e = absurd (false≢true e)
 
 -- what holds of both lists holds of the one that a test picks
 picked : (P : List Reason → Type 0) {x y : List Reason} (b : Bool) → P x → P y → P (cond b x y)
@@ -47,7 +80,7 @@ module _ (hops : ℕ) (source destination packet : List ℕ) where
       (picked Numbered (eqb type 137) (omega arith, (omega arith, tt)) tt))))
 
   pub numbered : Numbered (reasons hops source destination packet)
-  unfolding reasons
+  unfolding reasons optionReasons
   numbered =
       picked Numbered (isNdp (getD packet 0 0))
       (omega arith, (omega arith, (omega arith, (omega arith, (omega arith, own-numbered (getD packet 0 0) _)))))

@@ -1,21 +1,41 @@
--- What the answer is on paper loses nothing: the answer can be taken back from it.
+-- What an answer is told as loses nothing: it is told as an answer of the dispatch is, and that is taken back.
 -- Assumes nothing.
-use mathlib.Core.Bool.{cond}
-use mathlib.Core.Path.{_≡_, refl}
-use lib.Dec.{eqb}
-use Rattle.paper.specs.Paper.{Paper}
-use Rattle.paper.proofs.Lossless.{lossless}
-use Rattle.refusal.proofs.Paper.{refusalOf, refusal-back, refusal-numbered}
+use Prim.Native.Nat.{ℕ}
+use mathlib.Core.Bool.{Bool}
+use mathlib.Core.Path.{_≡_, refl, sym, ap, _∙_}
+use Rattle.icmpv6_payload_slice.specs.Dispatch.{readTold}
+use Rattle.icmpv6_payload_slice.specs.declared.PayloadRead.{PayloadRead}
+use Rattle.icmpv6_payload_slice.specs.declared.PayloadRead.the-variants as read
+use Rattle.icmpv6_payload_slice.proofs.Paper.{read-lossless}
 use Rattle.receive.specs.declared.Received.{Received}
 use Rattle.receive.specs.declared.Received.the-variants.{Accepted, Refused}
-use Rattle.receive.specs.Told.{told}
+use Rattle.receive.specs.declared.Judged.{Judged}
+use Rattle.receive.specs.Told.{Judgement, told, judgedTold}
 
-abbrev receivedFrom : Paper → Received
-receivedFrom p = cond (eqb (p .number) 0) Accepted (Refused (refusalOf p))
+abbrev asRead : Received → PayloadRead
+asRead (Accepted m) = read.Payload m
+asRead (Refused r) = read.Refused r
 
-told-back : (r : Received) → receivedFrom (told r) ≡ r
-told-back Accepted = refl
-told-back (Refused r) = simp (refusal-numbered r, refusal-back r)
+abbrev asReceived : PayloadRead → Received
+asReceived (read.Payload m) = Accepted m
+asReceived (read.Refused r) = Refused r
+
+as-told : (x : Received) → readTold (asRead x) ≡ told x
+as-told (Accepted m) = refl
+as-told (Refused r) = refl
+
+as-back : (x : Received) → asReceived (asRead x) ≡ x
+as-back (Accepted m) = refl
+as-back (Refused r) = refl
 
 pub told-lossless : (x y : Received) → told x ≡ told y → x ≡ y
-told-lossless = lossless told receivedFrom told-back
+told-lossless x y e = sym (as-back x) ∙ ap asReceived (read-lossless (asRead x) (asRead y) (as-told x ∙ e ∙ sym (as-told y))) ∙ as-back y
+
+abbrev judged : PayloadRead → Bool → ℕ → Judged
+judged o v n = record { opened = o; valid = v; reason = n }
+
+pub judged-lossless : (x y : Judged) → judgedTold x ≡ judgedTold y → x ≡ y
+judged-lossless x y e =
+    ap (λ (o : PayloadRead). judged o (x .valid) (x .reason)) (read-lossless (x .opened) (y .opened) (ap (λ (j : Judgement). j .opened) e))
+    ∙ ap (λ (v : Bool). judged (y .opened) v (x .reason)) (ap (λ (j : Judgement). j .valid) e)
+    ∙ ap (λ (n : ℕ). judged (y .opened) (y .valid) n) (ap (λ (j : Judgement). j .reason) e)

@@ -1,76 +1,116 @@
 -- What the receive check's definition comes to: when a packet is accepted, when it is refused for a reason, and for which reasons never.
 -- Assumes nothing.
-use Prim.Native.Nat.{ℕ, _+_, _≤_}
-use mathlib.Core.Path.{_≡_, refl, _∙_}
+use Prim.Native.Nat.{ℕ, _+_, _-_, _<_, _≤_}
+use mathlib.Core.Path.{_≡_, refl, sym, ap, _∙_}
 use mathlib.Core.Logic.{_↔_}
-use mathlib.Core.Bool.{true}
+use mathlib.Core.Bool.{Bool, true, false, cond, not}
 use mathlib.Core.List.{List, [], _∷_}
 use native.Mathlib.Omega.{arith}
+use lib.Dec.{eqb}
 use lib.ListN.{length, getD}
-use borrow.Author.Tests.{eq-eqb, ne-eqb, le-ltb}
-use Rattle.packet_length.proofs.Laws.{Between, sized-fits, behind}
+use borrow.Author.Tests.{eq-eqb, ne-eqb, eqb-false}
+use Rattle.paper.specs.Paper.{Paper}
+use Rattle.packet_length.specs.Length.{fits}
+use Rattle.packet_length.proofs.Laws.{Between, fits-between, fits-or, misfit}
 use Rattle.message_table.specs.Table.{fixedLen, isNdp}
-use Rattle.message_table.proofs.Laws.{fixed-of-133}
-use Rattle.checksum.specs.Icmpv6.{verdictOf}
-use Rattle.checksum.specs.Fields.{isValid}
+use Rattle.icmpv6_payload_slice.specs.Dispatch.{payloadOf, kindAt, byBytes}
+use Rattle.icmpv6_payload_slice.proofs.Laws.{whole, not-short, fitting}
 use Rattle.ndp_walk.specs.Walk.{Clean}
 use Rattle.ndp_options.specs.Walk.{walk}
 use Rattle.ndp_option_list.specs.Whole.{occurs}
-use Rattle.receive.specs.Reasons.{firstOf, None, First}
+use Rattle.receive.specs.Reasons.{reason, firstOf, None, First}
 use Rattle.receive.specs.Rules.{ownOf}
-use Rattle.receive.specs.Receive.{optionsOf, reasons, accepted, notReceived, answerBy, receiveOf}
+use Rattle.receive.specs.Receive.{optionsOf, isSound, optionReasons, reasons, reasonOf, accepted, notReceived, answerBy, receiveOf}
 use Rattle.receive.specs.Given.{givenFor, among}
 use Rattle.receive.proofs.First.{none-first, first-none, named, names, first-numbered, first-among, without}
-use Rattle.receive.proofs.Answers.{answer-0, answer-n, numbered}
-use Rattle.receive.proofs.Types.{Kind, solicits-routers, advertises-router, solicits-neighbor, advertises-neighbor, redirects, other, view}
+use Rattle.receive.proofs.Answers.{answer-0, answer-n, dispatch-low, numbered}
+use Rattle.receive.proofs.Types.{Kind, solicits-routers, advertises-router, solicits-neighbor, advertises-neighbor, redirects, other, view, ndp-kind, other-kind, solicits-kind}
 
 module _ (hops : ℕ) (source destination packet : List ℕ) where
-  -- A packet is accepted exactly if its length is from 8 to the limit and none of the reasons holds.
-  pub accepted-exactly : (receiveOf hops source destination packet ≡ accepted) ↔ (Between (length packet) × None (reasons hops source destination packet))
+  -- of a length that fits the first of the reasons is told
+  tested : Between (length packet) → reasonOf hops source destination packet ≡ firstOf (reasons hops source destination packet)
+  unfolding reasonOf
+  tested b = rw (fits-between (length packet) (b .low) (b .high))
+
+  -- a length that does not fit is refused for that
+  misfitted : fits (length packet) ≡ false → (0 < receiveOf hops source destination packet .number) × (receiveOf hops source destination packet .number < 3)
+  unfolding receiveOf reasonOf byBytes
+  misfitted f = rw f (misfit (length packet) (payloadOf 8 (kindAt packet) packet) f)
+
+  -- the fixed part is there where no reason holds
+  pub not-lacking : Between (length packet) → None (reasons hops source destination packet) → fixedLen (kindAt packet) ≤ length packet - 8
+  unfolding reasons
+  not-lacking b = by (isNdp (getD packet 0 0)) refl
+    where
+      by : (x : Bool) → isNdp (getD packet 0 0) ≡ x → None (cond x (reason 1 (not (eqb hops 255)) ∷ reason 2 (not (isSound source destination packet)) ∷ reason 3 (not (eqb (getD packet 1 0) 0)) ∷ reason 4 (eqb (byBytes packet .number) 4) ∷ optionReasons (getD packet 0 0) (optionsOf packet) source destination packet) (reason 2 (not (isSound source destination packet)) ∷ [])) → fixedLen (kindAt packet) ≤ length packet - 8
+      by true e h =
+          not-short 8 (kindAt packet) packet (byBytes packet) (λ z. eqb-false (byBytes packet .number) 4 (h .1 .1 .1 .0) z) (sym (fitting packet b)) .0
+      by false e h = omega (arith, other-kind packet e)
+
+  pub opened-whole : Between (length packet) → fixedLen (kindAt packet) ≤ length packet - 8 → byBytes packet ≡ accepted packet
+  opened-whole b h = fitting packet b ∙ whole 8 (kindAt packet) packet h
+
+  -- nothing else is answered without a refusal
+  pub accepting : receiveOf hops source destination packet .number ≡ 0 → Between (length packet) × None (reasons hops source destination packet)
+  unfolding receiveOf
+  accepting e = by (fits (length packet)) refl
+    where
+      by : (b : Bool) → fits (length packet) ≡ b → Between (length packet) × None (reasons hops source destination packet)
+      by true f =
+          let b = fits-or (length packet) f in
+          let z = answer-0 packet _ e in
+          (b, first-none _ (numbered hops source destination packet) (sym (tested b) ∙ z))
+      by false f = absurd (omega (arith, misfitted f .0, e))
+
+  -- A packet is accepted exactly if its length is from 8 to the limit and none of the reasons holds; then what it is and where its parts are is told.
+  pub accepted-exactly : (receiveOf hops source destination packet ≡ accepted packet) ↔ (Between (length packet) × None (reasons hops source destination packet))
   unfolding receiveOf
   accepted-exactly = (
-    λ e.
-        let b = behind (length packet) _ accepted (λ z. omega arith) (λ z. omega arith) e in
-        (b .0, first-none _ (numbered hops source destination packet) (answer-0 _ (b .1))),
-    λ h. sized-fits (length packet) (h .0 .low) (h .0 .high) _ ∙ rw (none-first _ (h .1)),
+    λ e. accepting (ap (λ (p : Paper). p .number) e),
+    λ h. rw (tested (h .0), none-first _ (h .1)) (opened-whole (h .0) (not-lacking (h .0) (h .1))),
   )
 
   -- It is refused for a reason exactly if that is the first of them that holds.
   pub refused-exactly : (n : ℕ) → (receiveOf hops source destination packet ≡ notReceived n) ↔ (Between (length packet) × First n (reasons hops source destination packet))
   unfolding receiveOf
-  refused-exactly n = (
-    λ e.
-        let b = behind (length packet) _ (notReceived n) (λ z. omega arith) (λ z. omega arith) e in
-        let m = answer-n _ n (b .1) in
-        (b .0, names n _ (m .0) (m .1)),
-    λ h.
-        let p = first-numbered (numbered hops source destination packet) (h .1) in
-        sized-fits (length packet) (h .0 .low) (h .0 .high) _ ∙ rw (named (h .1), ne-eqb n 0 (λ z. omega arith)),
-  )
+  refused-exactly n = (λ e. by e (fits (length packet)) refl, given)
+    where
+      by : receiveOf hops source destination packet ≡ notReceived n → (b : Bool) → fits (length packet) ≡ b → Between (length packet) × First n (reasons hops source destination packet)
+      by e true f =
+          let b = fits-or (length packet) f in
+          let m = answer-n packet _ n (let l = dispatch-low packet in omega (arith, l)) e in
+          (b, names n _ (m .0) (sym (tested b) ∙ m .1))
+      by e false f = absurd (let z = ap (λ (p : Paper). p .number) e in omega (arith, misfitted f .1, z))
+
+      given : Between (length packet) × First n (reasons hops source destination packet) → receiveOf hops source destination packet ≡ notReceived n
+      given h =
+          let p = first-numbered (numbered hops source destination packet) (h .1) in
+          rw (tested (h .0), named (h .1), ne-eqb n 0 (λ z. omega arith))
 
   -- A packet of Neighbor Discovery that passes the first five tests is judged by its type's own reasons alone.
   pub own-alone : Between (length packet)
       → isNdp (getD packet 0 0) ≡ true
       → hops ≡ 255
-      → isValid (verdictOf source destination packet) ≡ true
+      → isSound source destination packet ≡ true
       → getD packet 1 0 ≡ 0
       → 8 + fixedLen (getD packet 0 0) ≤ length packet
       → walk (optionsOf packet) .ending ≡ Clean
-      → receiveOf hops source destination packet ≡ answerBy (firstOf (ownOf (getD packet 0 0) source destination packet (occurs 1 (walk (optionsOf packet) .items))))
-  unfolding receiveOf reasons firstOf
+      → receiveOf hops source destination packet ≡ answerBy packet (firstOf (ownOf (getD packet 0 0) source destination packet (occurs 1 (walk (optionsOf packet) .items))))
+  unfolding receiveOf reasons optionReasons firstOf
   own-alone b n h v c l w =
-      sized-fits (length packet) (b .low) (b .high) _
-      ∙ simp (n, eq-eqb hops 255 h, v, eq-eqb (getD packet 1 0) 0 c, le-ltb (length packet) (8 + fixedLen (getD packet 0 0)) l, w)
+      let there : fixedLen (kindAt packet) ≤ length packet - 8 = rw (ndp-kind packet n c) (omega (arith, l)) in
+      rw (tested b)
+      (simp (n, eq-eqb hops 255 h, v, eq-eqb (getD packet 1 0) 0 c, ap (λ (p : Paper). p .number) (opened-whole b there), w))
 
   -- No reason is given but those of the packet's type. Of a Router Solicitation (4) falls out: past refusal 1 it has its eight bytes.
   pub given-only : (n : ℕ) → receiveOf hops source destination packet ≡ notReceived n → among n (givenFor (getD packet 0 0)) ≡ true
-  unfolding reasons ownOf
+  unfolding reasons optionReasons ownOf
   given-only n h = by (view (getD packet 0 0)) refl (refused-exactly n .0 h)
     where
       by : {t : ℕ} → Kind t → getD packet 0 0 ≡ t → Between (length packet) × First n (reasons hops source destination packet) → among n (givenFor t) ≡ true
       by solicits-routers e f =
-          let eight = le-ltb (length packet) 8 (f .0 .low) in
-          first-among (without (_ ∷ _ ∷ _ ∷ []) _ _ eight (rw (e, fixed-of-133) at (f .1)))
+          let eight = ap (λ (p : Paper). eqb (p .number) 4) (opened-whole (f .0) (omega (arith, solicits-kind packet e))) in
+          first-among (without (_ ∷ _ ∷ _ ∷ []) _ _ eight (rw e at (f .1)))
       by advertises-router e f = first-among (rw e at (f .1))
       by solicits-neighbor e f = first-among (rw e at (f .1))
       by advertises-neighbor e f = first-among (rw e at (f .1))

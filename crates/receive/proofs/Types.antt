@@ -1,14 +1,17 @@
 -- The five types of Neighbor Discovery and all others: what a proof about a packet's type goes by.
 -- Assumes nothing.
 use Prim.Native.Nat.{ℕ}
-use mathlib.Core.Path.{_≡_}
-use mathlib.Core.Bool.{false}
-use mathlib.Core.List.{[], _∷_}
+use mathlib.Core.Path.{_≡_, refl, sym, _∙_}
+use mathlib.Core.Bool.{Bool, true, false, false≢true, cond}
+use mathlib.Core.List.{List, [], _∷_}
 use native.Mathlib.Omega.{arith}
 use native.Mathlib.Decide.{decLe}
+use lib.ListN.{getD}
 use borrow.Author.Tests.{ne-eqb, le-leb, lt-leb}
 use Rattle.wire.proofs.Cases.{cases}
-use Rattle.message_table.specs.Table.{isNdp}
+use Rattle.message_table.specs.Table.{known, fixedLen, isNdp}
+use Rattle.message_table.proofs.Laws.{fixed-of-133, fixed-outside}
+use Rattle.icmpv6_payload_slice.specs.Dispatch.{kindAt}
 use Rattle.receive.specs.Given.{givenFor}
 
 pub data Kind : ℕ → Type 0 where
@@ -45,3 +48,36 @@ view t =
     cases t 137 (λ e. rw e redirects)
     (λ n137.
     other (outside t n133 n134 n135 n136 n137) (checksum-alone t n133 n134 n135 n136 n137))))))
+
+-- the table has each of the five types with code 0
+pub ndp-known : (t : ℕ) → isNdp t ≡ true → known t 0 ≡ true
+unfolding known
+ndp-known t h = by (view t) h
+  where
+    by : {t : ℕ} → Kind t → isNdp t ≡ true → known t 0 ≡ true
+    by solicits-routers h = refl
+    by advertises-router h = refl
+    by solicits-neighbor h = refl
+    by advertises-neighbor h = refl
+    by redirects h = refl
+    by (other out alone) h = absurd (false≢true (sym out ∙ h))
+
+-- so a packet of such a type and code 0 is dispatched by its type
+pub ndp-kind : (p : List ℕ) → isNdp (getD p 0 0) ≡ true → getD p 1 0 ≡ 0 → kindAt p ≡ getD p 0 0
+ndp-kind p n c = rw (c, ndp-known (getD p 0 0) n)
+
+-- and one of another type as a kind without a fixed part
+pub other-kind : (p : List ℕ) → isNdp (getD p 0 0) ≡ false → fixedLen (kindAt p) ≡ 0
+other-kind p n = by (known (getD p 0 0) (getD p 1 0))
+  where
+    by : (b : Bool) → fixedLen (cond b (getD p 0 0) 0) ≡ 0
+    by true = fixed-outside (getD p 0 0) n
+    by false = fixed-outside 0 refl
+
+-- as is a Router Solicitation, whatever its code
+pub solicits-kind : (p : List ℕ) → getD p 0 0 ≡ 133 → fixedLen (kindAt p) ≡ 0
+solicits-kind p e = rw e (by (known 133 (getD p 1 0)))
+  where
+    by : (b : Bool) → fixedLen (cond b 133 0) ≡ 0
+    by true = fixed-of-133
+    by false = fixed-outside 0 refl

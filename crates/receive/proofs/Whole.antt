@@ -7,8 +7,9 @@ use mathlib.Core.Bool.{true, false, false≢true}
 use mathlib.Core.List.{List}
 use native.Mathlib.Omega.{arith}
 use lib.ListN.{length, getD, drop}
-use borrow.Author.Tests.{not-false, eqb-true, ltb-false}
-use Rattle.message_table.specs.Table.{known, fixedLen, isNdp}
+use borrow.Author.Tests.{not-false, eqb-true}
+use Rattle.paper.specs.Paper.{Paper}
+use Rattle.message_table.specs.Table.{isNdp}
 use Rattle.packet_length.proofs.Laws.{sized-fits}
 use Rattle.icmpv6_type.proofs.Laws.{as-known}
 use Rattle.icmpv6.specs.Head.{decodeOf, fieldsAt}
@@ -21,28 +22,19 @@ use Rattle.ndp_options.proofs.Steps.{handed-on, refused-at, not-stopped}
 use Rattle.ndp_options.proofs.Laws.{all-bytes}
 use Rattle.receive.specs.declared.Received.{Received}
 use Rattle.receive.specs.declared.Received.the-variants.{Accepted}
-use Rattle.receive.specs.Receive.{isClean, reasons, receiveOf}
+use Rattle.receive.specs.Receive.{isClean, optionReasons, reasons, receiveOf}
 use Rattle.receive.specs.Told.{told}
-use Rattle.receive.specs.Whole.{Reached, start, on, isWhole, Whole}
-use Rattle.receive.proofs.Types.{Kind, solicits-routers, advertises-router, solicits-neighbor, advertises-neighbor, redirects, other, view}
-use Rattle.receive.proofs.Theorems.{accepted-exactly}
+use Rattle.receive.specs.Whole.{Reached, start, on, isWhole, optionsFrom, Whole}
+use Rattle.icmpv6_payload_slice.specs.declared.Icmpv6PayloadSlice.{Icmpv6PayloadSlice}
+use Rattle.icmpv6_payload_slice.specs.declared.PayloadRead.the-variants.{Payload}
+use Rattle.icmpv6_payload_slice.specs.Dispatch.{optionsAt, kindAt}
+use Rattle.icmpv6_payload_slice.proofs.Opened.{Opened, opened}
+use Rattle.receive.proofs.Types.{ndp-known, ndp-kind}
+use Rattle.receive.proofs.Theorems.{accepting, accepted-exactly, not-lacking, opened-whole}
 
 is-clean : (e : Ending) → isClean e ≡ true → e ≡ Clean
 is-clean Clean h = refl
 is-clean (RefusedAt at why) h = absurd (false≢true h)
-
--- the table has each of the five types with code 0
-known-0 : (t : ℕ) → isNdp t ≡ true → known t 0 ≡ true
-unfolding known
-known-0 t h = by (view t) h
-  where
-    by : {t : ℕ} → Kind t → isNdp t ≡ true → known t 0 ≡ true
-    by solicits-routers h = refl
-    by advertises-router h = refl
-    by solicits-neighbor h = refl
-    by advertises-neighbor h = refl
-    by redirects h = refl
-    by (other out alone) h = absurd (false≢true (sym out ∙ h))
 
 module _ (s : List ℕ) where
   -- the walk from a place that was reached ends as the whole walk does
@@ -65,23 +57,41 @@ module _ (s : List ℕ) where
           absurd (false≢true (ap isClean z))
       by Stopped arm = absurd (not-stopped s at (ends-alike r .0) e arm)
 
--- An accepted packet of types 133 to 137 is a structured message, and its option list is whole.
-pub accepted-whole : (hops : ℕ) (source destination packet : List ℕ) (r : Received)
+-- what is handed on of an accepted packet is what the dispatch says of it
+pub accepted-opened : (hops : ℕ) (source destination packet : List ℕ) (r : Received) {m : Icmpv6PayloadSlice}
     → told r ≡ receiveOf hops source destination packet
-    → r ≡ Accepted
+    → r ≡ Accepted m
+    → Opened packet m
+accepted-opened hops source destination packet r {m} e a =
+    let number : receiveOf hops source destination packet .number ≡ 0 = ap (λ (p : Paper). p .number) (sym e ∙ ap told a) in
+    let h = accepting hops source destination packet number in
+    let is = accepted-exactly hops source destination packet .1 h in
+    let there = not-lacking hops source destination packet (h .0) (h .1) in
+    opened packet (h .0) (Payload m) (sym (ap told a) ∙ e ∙ is ∙ sym (opened-whole hops source destination packet (h .0) there)) refl
+
+-- An accepted packet of types 133 to 137 is a structured message, and its option list, at the place that was handed on, is whole.
+pub accepted-whole : (hops : ℕ) (source destination packet : List ℕ) (r : Received) {m : Icmpv6PayloadSlice}
+    → told r ≡ receiveOf hops source destination packet
+    → r ≡ Accepted m
     → isNdp (getD packet 0 0) ≡ true
-    → Whole packet
-unfolding decodeOf reasons
-accepted-whole hops source destination packet r e a n =
-    let h = accepted-exactly hops source destination packet .0 (sym e ∙ ap told a) in
+    → Whole packet m
+unfolding decodeOf reasons optionReasons
+accepted-whole hops source destination packet r {m} e a n =
+    let o = accepted-opened hops source destination packet r e a in
+    let number : receiveOf hops source destination packet .number ≡ 0 = ap (λ (p : Paper). p .number) (sym e ∙ ap told a) in
+    let h = accepting hops source destination packet number in
     let rs = rw n at (h .1) in
     let code = eqb-true (getD packet 1 0) 0 (not-false _ (rs .1 .1 .0)) in
-    let clean = is-clean _ (not-false _ (rs .1 .1 .1 .1 .0)) in
+    let type = ndp-kind packet n code in
+    let at : m .«options_at» ≡ optionsAt 8 (kindAt packet) (length packet) = o .options in
+    let clean : walk (optionsFrom m packet) .ending ≡ Clean = rw at (is-clean _ (not-false _ (rs .1 .1 .1 .1 .0))) in
     record {
       kind =
           sized-fits (length packet) (h .0 .low) (h .0 .high) _
-          ∙ rw (code, as-known (getD packet 0 0) 0 (fieldsAt packet) (known-0 (getD packet 0 0) n));
-      fixed = ltb-false (length packet) (8 + fixedLen (getD packet 0 0)) (rs .1 .1 .1 .0);
+          ∙ rw (code, as-known (getD packet 0 0) 0 (fieldsAt packet) (ndp-known (getD packet 0 0) n));
+      same = o .kind ∙ type;
+      fixed = at ∙ rw (type, n);
+      there = o .within;
       clean = clean;
       all = all-bytes _ clean;
       steps = whole-steps _ clean;

@@ -8,7 +8,8 @@ use native.Mathlib.Omega.{arith}
 use lib.ListN.{length, getD, take, set, replicate}
 use Rattle.paper.specs.Paper.{Paper}
 use Rattle.packet_length.specs.Length.{sized}
-use Rattle.message_table.specs.Table.{fixedLen}
+use Rattle.message_table.specs.Table.{known, fixedLen}
+use Rattle.icmpv6_payload_slice.specs.Dispatch.{byBytes, payloadOf}
 use Rattle.wire.specs.Prefix.{begins}
 use Rattle.checksum.specs.Ones.{_⊕_}
 use Rattle.checksum.specs.Icmpv6.{sumOf, withField, checksumOf, verdictOf}
@@ -18,7 +19,7 @@ use Rattle.ndp_options.specs.Rule.{rule}
 use Rattle.ndp_option_list.specs.Whole.{occurs}
 use Rattle.receive.specs.Reasons.{firstOf}
 use Rattle.receive.specs.Rules.{ownOf}
-use Rattle.receive.specs.Receive.{reasons, accepted, notReceived, answerBy, receiveOf}
+use Rattle.receive.specs.Receive.{optionReasons, reasons, reasonOf, accepted, notReceived, answerBy, receiveOf}
 use Rattle.receive.specs.Given.{givenFor}
 
 -- a packet, how it came, and the reason that is answered: 0 where it is accepted
@@ -102,8 +103,8 @@ witnesses =
 abbrev answerTo : Witness → Paper
 answerTo w = receiveOf (w .hops) (w .source) (w .destination) (w .packet)
 
-pub answered : map answerTo witnesses ≡ map (λ (w : Witness). answerBy (w .reason)) witnesses
-unfolding witnesses receiveOf reasons firstOf ownOf sized fixedLen begins sumOf checksumOf verdictOf _⊕_ judge rule walkOn walkFrom occurs
+pub answered : map answerTo witnesses ≡ map (λ (w : Witness). answerBy (w .packet) (w .reason)) witnesses
+unfolding witnesses receiveOf reasonOf reasons optionReasons firstOf ownOf known byBytes payloadOf sized fixedLen begins sumOf checksumOf verdictOf _⊕_ judge rule walkOn walkFrom occurs
 answered = refl
 
 -- type and answer of each
@@ -118,14 +119,14 @@ complete = refl
 
 -- no check that is constant: the first packet of the table under hop limit 255 and under 254
 pub not-constant : (p : Paper) → ((hops : ℕ) (source destination packet : List ℕ) → receiveOf hops source destination packet ≡ p) → ⊥
-unfolding receiveOf reasons firstOf ownOf sized fixedLen begins sumOf checksumOf verdictOf _⊕_ judge rule walkOn walkFrom occurs
+unfolding receiveOf reasonOf reasons optionReasons firstOf ownOf known byBytes payloadOf sized fixedLen begins sumOf checksumOf verdictOf _⊕_ judge rule walkOn walkFrom occurs
 not-constant p same =
     let packet = sealed near all (message 133 0 option) in
     let e = sym taken ∙ same 255 near all packet ∙ sym (same 254 near all packet) ∙ left in
     let z : _≡_ {A = ℕ} 0 11 = ap (λ (q : Paper). q .number) e in
     omega arith
   where
-    taken : receiveOf 255 near all (sealed near all (message 133 0 option)) ≡ accepted
+    taken : receiveOf 255 near all (sealed near all (message 133 0 option)) ≡ accepted (sealed near all (message 133 0 option))
     taken = refl
 
     left : receiveOf 254 near all (sealed near all (message 133 0 option)) ≡ notReceived 1

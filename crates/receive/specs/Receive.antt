@@ -1,53 +1,66 @@
--- Document 01, "The receive check": after refusals 1 and 2, the reasons of refusal 11 in its order.
+-- The receive check (RFC 4861, sections 6.1.1, 6.1.2, 7.1.1, 7.1.2 and 8.1): a packet that passes is opened, and handed on as the dispatch tells
+-- it. After refusals 1 and 2 come the reasons of refusal 11, in the order in which they are tested.
 -- Assumes nothing.
-use Prim.Native.Nat.{ℕ, _+_}
+use Prim.Native.Nat.{ℕ}
 use mathlib.Core.Bool.{Bool, true, false, cond, not}
 use mathlib.Core.List.{List, [], _∷_}
-use lib.Dec.{eqb, ltb}
-use lib.ListN.{length, getD, drop}
-use Rattle.paper.specs.Paper.{Paper, gives, refuses}
-use Rattle.packet_length.specs.Length.{sized}
-use Rattle.message_table.specs.Table.{fixedLen, isNdp}
+use lib.Dec.{eqb}
+use lib.ListN.{length, getD}
+use Rattle.paper.specs.Paper.{Paper, refuses}
+use Rattle.packet_length.specs.Length.{fits}
+use Rattle.message_table.specs.Table.{isNdp}
 use Rattle.checksum.specs.Icmpv6.{verdictOf}
 use Rattle.checksum.specs.Fields.{isValid}
 use Rattle.ndp_walk.specs.Walk.{Ending, Clean, RefusedAt}
 use Rattle.ndp_options.specs.Walk.{walk}
 use Rattle.ndp_option_list.specs.Whole.{occurs}
+use Rattle.icmpv6_payload_slice.specs.Dispatch.{optionsIn, partsOf, kindAt, byBytes}
 use Rattle.receive.specs.Reasons.{Reason, reason, firstOf}
 use Rattle.receive.specs.Rules.{ownOf}
 
--- the options are behind the fixed part
+-- the option bytes of a packet, as the dispatch places them
 abbrev pub optionsOf : List ℕ → List ℕ
-optionsOf packet = drop (8 + fixedLen (getD packet 0 0)) packet
+optionsOf packet = optionsIn 8 (kindAt packet) packet
 
 abbrev pub isClean : Ending → Bool
 isClean Clean = true
 isClean (RefusedAt at why) = false
 
--- (1) hop limit 255; (2) checksum; (3) code 0; (4) length; (5) clean walk; then the type's own of (6) addresses; (7) target; (8) option
--- against source. Other types: (2) only
+-- whether the checksum of a packet is right
+abbrev pub isSound : List ℕ → List ℕ → List ℕ → Bool
+isSound source destination packet = isValid (verdictOf source destination packet)
+
+-- (5) clean walk of the options; then the type's own of (6) addresses; (7) target; (8) option against source
+unfoldable pub optionReasons : ℕ → List ℕ → List ℕ → List ℕ → List ℕ → List Reason
+optionReasons type options source destination packet =
+    reason 5 (not (isClean (walk options .ending))) ∷ ownOf type source destination packet (occurs 1 (walk options .items))
+
+-- (1) hop limit 255; (2) checksum; (3) code 0; (4) the fixed part is there; and those above. Other types: (2) only
 unfoldable pub reasons : ℕ → List ℕ → List ℕ → List ℕ → List Reason
 reasons hops source destination packet =
     let type = getD packet 0 0 in
-    let options = walk (optionsOf packet) in
     cond (isNdp type)
     (reason 1 (not (eqb hops 255))
-    ∷ reason 2 (not (isValid (verdictOf source destination packet)))
+    ∷ reason 2 (not (isSound source destination packet))
     ∷ reason 3 (not (eqb (getD packet 1 0) 0))
-    ∷ reason 4 (ltb (length packet) (8 + fixedLen type))
-    ∷ reason 5 (not (isClean (options .ending)))
-    ∷ ownOf type source destination packet (occurs 1 (options .items)))
-    (reason 2 (not (isValid (verdictOf source destination packet))) ∷ [])
+    ∷ reason 4 (eqb (byBytes packet .number) 4)
+    ∷ optionReasons type (optionsOf packet) source destination packet)
+    (reason 2 (not (isSound source destination packet)) ∷ [])
 
--- accepted: nothing refused, and no values
-abbrev pub accepted : Paper
-accepted = gives []
+-- the reason, 0 where there is none: of a length that is refused nothing is tested
+unfoldable pub reasonOf : ℕ → List ℕ → List ℕ → List ℕ → ℕ
+reasonOf hops source destination packet = cond (fits (length packet)) (firstOf (reasons hops source destination packet)) 0
+
+-- what a packet is that is accepted, and where its parts are
+abbrev pub accepted : List ℕ → Paper
+accepted packet = partsOf 8 (kindAt packet) packet
 
 abbrev pub notReceived : ℕ → Paper
 notReceived n = refuses 11 (n ∷ [])
 
-abbrev pub answerBy : ℕ → Paper
-answerBy n = cond (eqb n 0) accepted (notReceived n)
+-- what the dispatch tells of a packet that no reason speaks against, refusals 1 and 2 among it
+abbrev pub answerBy : List ℕ → ℕ → Paper
+answerBy packet n = cond (eqb n 0) (byBytes packet) (notReceived n)
 
 unfoldable pub receiveOf : ℕ → List ℕ → List ℕ → List ℕ → Paper
-receiveOf hops source destination packet = sized (length packet) (answerBy (firstOf (reasons hops source destination packet)))
+receiveOf hops source destination packet = answerBy packet (reasonOf hops source destination packet)

@@ -4,7 +4,7 @@ use Prim.Native.Nat.{ℕ, _+_, _≤_}
 use mathlib.Core.Path.{_≡_}
 use mathlib.Core.Bool.{Bool, true, false}
 use mathlib.Core.List.{List, _∷_, map}
-use lib.ListN.{length, getD}
+use lib.ListN.{length, getD, drop}
 use Rattle.paper.specs.Paper.{gives}
 use Rattle.message_table.specs.Table.{fixedLen}
 use Rattle.icmpv6_type.specs.Value.{fieldsOf}
@@ -17,7 +17,8 @@ use Rattle.ndp_options.specs.declared.NdpOption.{NdpOption}
 use Rattle.ndp_options.specs.declared.Cursor.{Cursor}
 use Rattle.ndp_options.specs.declared.Step.{Step}
 use Rattle.ndp_options.specs.declared.Step.the-variants.{Handed, End, Refused, Stopped}
-use Rattle.receive.specs.Receive.{optionsOf}
+use Rattle.icmpv6_payload_slice.specs.declared.Icmpv6PayloadSlice.{Icmpv6PayloadSlice}
+use Rattle.icmpv6_payload_slice.specs.Dispatch.{kindNumber}
 
 -- a place that one comes to by steps from the first option byte on
 pub data Reached (options : List ℕ) : ℕ → Type 0 where
@@ -31,14 +32,21 @@ isWhole End = true
 isWhole (Refused why next) = false
 isWhole Stopped = false
 
-pub record Whole (packet : List ℕ) : Type 0 where
+-- the option bytes of a packet at the place that was handed on
+abbrev pub optionsFrom : Icmpv6PayloadSlice → List ℕ → List ℕ
+optionsFrom message packet = drop (message .«options_at») packet
+
+pub record Whole (packet : List ℕ) (message : Icmpv6PayloadSlice) : Type 0 where
   -- the head decodes to the kind of its type: behind the checksum stands the type, where an Unknown has 0
   pub kind : let type = getD packet 0 0 in decodeOf packet ≡ gives (checksumAt packet ∷ type ∷ fieldsOf type 0 (fieldsAt packet))
-  -- the fixed part is there
-  pub fixed : 8 + fixedLen (getD packet 0 0) ≤ length packet
+  -- and so does what was handed on
+  pub same : kindNumber (message .kind) ≡ getD packet 0 0
+  -- the fixed part is there, and the options begin behind it
+  pub fixed : message .«options_at» ≡ 8 + fixedLen (getD packet 0 0)
+  pub there : message .«options_at» ≤ length packet
   -- the options walk clean to the end
-  pub clean : walk (optionsOf packet) .ending ≡ Clean
+  pub clean : walk (optionsFrom message packet) .ending ≡ Clean
   -- and their bytes, one after the other, are all that is behind the fixed part
-  pub all : concat (map (bytesIn (optionsOf packet)) (walk (optionsOf packet) .items)) ≡ optionsOf packet
+  pub all : concat (map (bytesIn (optionsFrom message packet)) (walk (optionsFrom message packet) .items)) ≡ optionsFrom message packet
   -- whoever steps through them is handed an option or told the end at every place
-  pub steps : (at : ℕ) → Reached (optionsOf packet) at → (x : Step) → stepTold x ≡ stepOf (optionsOf packet) at → isWhole x ≡ true
+  pub steps : (at : ℕ) → Reached (optionsFrom message packet) at → (x : Step) → stepTold x ≡ stepOf (optionsFrom message packet) at → isWhole x ≡ true

@@ -1,21 +1,25 @@
-// The receive check of RFC 4861 for Neighbor Discovery (sections 6.1.1, 6.1.2, 7.1.1, 7.1.2 and 8.1) as document 01 words it; of all other
-// packets the checksum alone is tested.
+// The receive check of RFC 4861 for Neighbor Discovery (sections 6.1.1, 6.1.2, 7.1.1, 7.1.2 and 8.1); of all other packets the checksum alone is
+// tested. A packet is opened once and summed once, and what was opened is handed on.
 ghost use mathlib.Core.Path.{_≡_};
-ghost use mathlib.Core.Bool.{_&&_};
-ghost use Prim.Native.Nat.{_+_, _≤_};
-ghost use lib.ListN.{length};
-ghost use Rattle.message_table.specs.Table.{fixedLen};
+ghost use mathlib.Core.Bool.{not, _&&_};
+ghost use Prim.Native.Nat.{_≤_};
+ghost use lib.Dec.{eqb};
+ghost use lib.ListN.{length, getD, drop};
+ghost use Rattle.packet_length.specs.Length.{fits};
+ghost use Rattle.message_table.specs.Table.{isNdp};
+ghost use Rattle.icmpv6_payload_slice.specs.Dispatch.{kindNumber, readTold, byBytes};
 ghost use Rattle.receive.specs.Reasons.{firstOf};
 ghost use Rattle.receive.specs.Rules.{routerSolicitation, routerAdvertisement, neighborSolicitation, neighborAdvertisement, redirect, ownOf};
-ghost use Rattle.receive.specs.Receive.{reasons, receiveOf};
-ghost use Rattle.receive.specs.Told.{told};
+ghost use Rattle.receive.specs.Receive.{optionReasons, reasons, isSound, reasonOf, receiveOf};
+ghost use Rattle.receive.specs.Told.{told, judgedTold, judgedOf};
 use addresses::is_link_local;
 use addresses::is_multicast;
 use addresses::is_same;
 use addresses::is_solicited_node;
 use addresses::is_unspecified;
 use checksum::validates;
-use message_table::fixed_len;
+use icmpv6_payload_slice::Icmpv6PayloadSlice;
+use icmpv6_payload_slice::PayloadRead;
 use message_table::is_ndp;
 use ndp_option_list::Occurs;
 use ndp_option_list::has_type;
@@ -26,9 +30,18 @@ use refusal::Refusal;
 use wire::has_flag;
 
 pub enum Received {
-    Accepted,
+    // What the packet is and where its parts are: its options are whole, and are the bytes from `options_at` on.
+    Accepted(Icmpv6PayloadSlice),
     // Refusals 1, 2, or 11 with the first reason that holds.
     Refused(Refusal),
+}
+
+// A packet that was judged: what it is, whether its checksum is right, and the reason not to receive it, 0 where there is none. Of a packet whose
+// length is refused, which `opened` says, there is none.
+pub struct Judged {
+    pub opened: PayloadRead,
+    pub valid: bool,
+    pub reason: u8,
 }
 
 fn both(a: bool, b: bool) -> bool
@@ -96,57 +109,119 @@ fn redirect(source: &[u8; 16], target: &[u8], field: &[u8]) -> u8
     if is_same(target, field) { 0 } else { 7 }
 }
 
+// The first of a type's own reasons, or 0.
 fn own_reason(
-    kind: u8,
+    message: Icmpv6PayloadSlice,
     packet: &[u8],
     source: &[u8; 16],
     destination: &[u8; 16],
     listed: bool,
 ) -> u8
-    requires { ⌜ (8 ≤ length (now packet)) × (8 + fixedLen kind ≤ length (now packet)) ⌝ }
-    ensures { λ r. ⌜ r ≡ firstOf (ownOf kind (now (source .entry)) (now (destination .entry)) (now (packet .entry)) listed) ⌝ }
+    requires { ⌜ (8 ≤ length (now packet)) × (message .«payload_at» ≡ 8) ⌝ }
+    ensures { λ r. ⌜ r ≡ firstOf (ownOf (kindNumber (message .kind)) (now (source .entry)) (now (destination .entry)) (now (packet .entry)) listed) ⌝ }
 {
-    match kind {
+    let kind = message.kind;
+    match kind.type_u8() {
         133 => router_solicitation(source, listed),
         134 => router_advertisement(source),
-        135 => neighbor_solicitation(source, destination, &packet[8..24], listed),
-        136 => neighbor_advertisement(destination, packet[4], &packet[8..24]),
-        137 => redirect(source, &packet[8..24], &packet[24..40]),
+        135 => neighbor_solicitation(source, destination, message.target_address(packet), listed),
+        136 => neighbor_advertisement(destination, packet[4], message.target_address(packet)),
+        137 => redirect(
+            source,
+            message.target_address(packet),
+            message.destination_address(packet),
+        ),
         _ => 0,
     }
 }
 
-// The tests in document 01's order: the first that fails, or 0.
-fn first_reason(packet: &[u8], hop_limit: u8, source: &[u8; 16], destination: &[u8; 16]) -> u8
-    requires { ⌜ 8 ≤ length (now packet) ⌝ }
+// The reasons from the options on.
+fn option_reason(
+    message: Icmpv6PayloadSlice,
+    packet: &[u8],
+    source: &[u8; 16],
+    destination: &[u8; 16],
+) -> u8
+    requires { ⌜ (8 ≤ length (now packet)) × (message .«payload_at» ≡ 8) × (message .«options_at» ≤ length (now packet)) ⌝ }
+    ensures { λ r. ⌜ r ≡ firstOf (optionReasons (kindNumber (message .kind)) (drop (message .«options_at») (now (packet .entry))) (now (source .entry)) (now (destination .entry)) (now (packet .entry))) ⌝ }
+{
+    let at = message.options_at;
+    match has_type(&packet[at..], NdpOptionType(1)) {
+        Occurs::Refused(_, _) => 5,
+        Occurs::Yes => own_reason(message, packet, source, destination, true),
+        Occurs::No => own_reason(message, packet, source, destination, false),
+    }
+}
+
+// The tests in their order, given the verdict on the checksum: the first that fails, or 0.
+fn first_reason(
+    opened: PayloadRead,
+    valid: bool,
+    packet: &[u8],
+    hop_limit: u8,
+    source: &[u8; 16],
+    destination: &[u8; 16],
+) -> u8
+    requires { ⌜ (8 ≤ length (now packet)) × (length (now packet) ≤ 4294967295) ⌝ }
+    requires { ⌜ (readTold opened ≡ byBytes (now packet)) × (valid ≡ isSound (now source) (now destination) (now packet)) ⌝ }
     ensures { λ r. ⌜ r ≡ firstOf (reasons «hop_limit» (now (source .entry)) (now (destination .entry)) (now (packet .entry))) ⌝ }
 {
-    let kind = packet[0];
-    let code = packet[1];
-    if !is_ndp(kind) {
-        if validates(packet, source, destination) {
-            return 0;
-        }
-        return 2;
+    if !is_ndp(packet[0]) {
+        return if valid { 0 } else { 2 };
     }
     if hop_limit != 255 {
         return 1;
     }
-    if !validates(packet, source, destination) {
+    if !valid {
         return 2;
     }
-    if code != 0 {
+    if packet[1] != 0 {
         return 3;
     }
-    let fixed = fixed_len(kind);
-    if packet.len() - 8 < fixed {
-        return 4;
+    match opened {
+        PayloadRead::Refused(_) => 4,
+        PayloadRead::Payload(message) => option_reason(message, packet, source, destination),
     }
-    let at = 8 + fixed;
-    match has_type(&packet[at..], NdpOptionType(1)) {
-        Occurs::Refused(_, _) => 5,
-        Occurs::Yes => own_reason(kind, packet, source, destination, true),
-        Occurs::No => own_reason(kind, packet, source, destination, false),
+}
+
+// The reason against a packet that was opened and summed; none of one whose length is refused.
+fn reason_of(
+    opened: PayloadRead,
+    valid: bool,
+    packet: &[u8],
+    hop_limit: u8,
+    source: &[u8; 16],
+    destination: &[u8; 16],
+) -> u8
+    requires { ⌜ (readTold opened ≡ byBytes (now packet)) × (valid ≡ isSound (now source) (now destination) (now packet)) ⌝ }
+    ensures { λ r. ⌜ r ≡ reasonOf «hop_limit» (now (source .entry)) (now (destination .entry)) (now (packet .entry)) ⌝ }
+{
+    match check_len(packet.len()) {
+        PacketLength::Refused(_) => 0,
+        PacketLength::Fits => first_reason(opened, valid, packet, hop_limit, source, destination),
+    }
+}
+
+// Whether a packet is refused for its hop limit, which is known before its sum is.
+fn is_far(packet: &[u8], hop_limit: u8) -> bool
+    ensures { λ r. ⌜ r ≡ (fits (length (now (packet .entry))) && (isNdp (getD (now (packet .entry)) 0 0) && not (eqb «hop_limit» 255))) ⌝ }
+{
+    match check_len(packet.len()) {
+        PacketLength::Refused(_) => false,
+        PacketLength::Fits => both(is_ndp(packet[0]), hop_limit != 255),
+    }
+}
+
+// What a packet is that came under a hop limit, from a source to a destination, whether its checksum is right, and the reason not to receive it.
+pub fn judge(packet: &[u8], hop_limit: u8, source: &[u8; 16], destination: &[u8; 16]) -> Judged
+    ensures { λ r. ⌜ judgedTold r ≡ judgedOf «hop_limit» (now (source .entry)) (now (destination .entry)) (now (packet .entry)) ⌝ }
+{
+    let opened = Icmpv6PayloadSlice::from_packet(packet);
+    let valid = validates(packet, source, destination);
+    Judged {
+        opened,
+        valid,
+        reason: reason_of(opened, valid, packet, hop_limit, source, destination),
     }
 }
 
@@ -159,14 +234,17 @@ pub fn receive_check(
 ) -> Received
     ensures { λ r. ⌜ told r ≡ receiveOf «hop_limit» (now (source .entry)) (now (destination .entry)) (now (packet .entry)) ⌝ }
 {
-    match check_len(packet.len()) {
-        PacketLength::Refused(why) => Received::Refused(why),
-        PacketLength::Fits => {
-            let reason = first_reason(packet, hop_limit, source, destination);
-            if reason == 0 {
-                return Received::Accepted;
-            }
-            Received::Refused(Refusal::NotReceived { reason })
-        }
+    if is_far(packet, hop_limit) {
+        return Received::Refused(Refusal::NotReceived { reason: 1 });
+    }
+    let judged = judge(packet, hop_limit, source, destination);
+    let reason = judged.reason;
+    if reason != 0 {
+        return Received::Refused(Refusal::NotReceived { reason });
+    }
+    let opened = judged.opened;
+    match opened {
+        PayloadRead::Refused(why) => Received::Refused(why),
+        PayloadRead::Payload(message) => Received::Accepted(message),
     }
 }

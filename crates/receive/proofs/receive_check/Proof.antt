@@ -1,51 +1,53 @@
--- `receive_check` meets its contract: the length is tested first, and the first reason that holds is told.
+-- `receive_check` meets its contract: the reason that was found is told, and where there is none, what the dispatch tells.
 -- Assumes nothing.
-use Rattle.receive.specs.Receive.{receiveOf}
-use Rattle.packet_length.proofs.Laws.{passed, refused, sized-fits, Between}
-use Rattle.packet_length.specs.Length as size
+use mathlib.Core.Path.{_≡_, sym, ap, _∙_}
+use denote.Ref.{now}
 use borrow.Author.Tests.{eq-eqb, ne-eqb}
-use lib.ListN.{length}
-use mathlib.Core.Path.{sym, ap, _∙_}
+use Rattle.icmpv6_payload_slice.specs.Dispatch.{readTold}
+use Rattle.receive.specs.Told.{Judgement}
+use Rattle.receive.specs.Receive.{receiveOf}
+use Rattle.receive.proofs.Answers.{far-reason}
 use borrow.Author.Needs.{needs}
 use Rattle.receive.proofs.receive_check.Statement.{statement}
 use Rattle.receive.proofs.receive_check.Tie as tie
 
-check-len-requires : tie.Need-check-len-requires
-check-len-requires c κs = search needs
-
-enum-known-why : tie.Need-enum-known-why
-enum-known-why c = search needs
-
-enum-told : tie.Need-enum-told
-enum-told c = search needs
-
--- the length that was passed on
-fitting : (c : tie.After-enum-told) → Between (length (c .before .before .before .before .args .packet .now))
-fitting c = passed _ (sym (ap size.told (c .enum-told .given .1)) ∙ c .before .before .check-len .ensures)
-
-first-reason-requires : tie.Need-first-reason-requires
-first-reason-requires c κs = fitting c .low
+is-far-requires : tie.Need-is-far-requires
+is-far-requires c κs = search needs
 
 returns : tie.Need-returns
 unfolding receiveOf
-returns c = let h = fitting (c .before .before) in rw (sized-fits _ (h .low) (h .high), ← (c .before .first-reason .ensures), eq-eqb _ _ (c .if1 .taken))
+returns c = let a = c .before .before .before .args in rw (far-reason (a .hop-limit) (now (a .source)) (now (a .destination)) (now (a .packet)) (sym (c .before .is-far .ensures) ∙ c .if1 .taken))
+
+judge-requires : tie.Need-judge-requires
+judge-requires c κs = search needs
 
 returns-2 : tie.Need-returns-2
 unfolding receiveOf
-returns-2 c = rw (refused _ (c .before .why .given .0 .0) (sym (ap size.told (c .before .why .given .1)) ∙ c .before .before .before .check-len .ensures))
+returns-2 c = let e = ap (λ (j : Judgement). j .reason) (c .before .judge .ensures) in rw (← e, ne-eqb _ _ (c .if2 .taken))
+
+enum-known-opened : tie.Need-enum-known-opened
+enum-known-opened c = search needs
+
+enum-known-opened-2 : tie.Need-enum-known-opened-2
+enum-known-opened-2 c = search needs
 
 returns-3 : tie.Need-returns-3
 unfolding receiveOf
-returns-3 c = let h = fitting (c .before .before) in rw (sized-fits _ (h .low) (h .high), ← (c .before .first-reason .ensures), ne-eqb _ _ (c .if1 .left))
+returns-3 c = let j = c .before .before .before .before .judge .ensures in let e = ap (λ (j : Judgement). j .reason) j in rw (← e, eq-eqb _ _ (c .before .before .before .if2 .left)) (ap readTold (sym (c .before .opened .given .1)) ∙ ap (λ (j : Judgement). j .opened) j)
+
+returns-4 : tie.Need-returns-4
+unfolding receiveOf
+returns-4 c = let j = c .before .before .before .before .judge .ensures in let e = ap (λ (j : Judgement). j .reason) j in rw (← e, eq-eqb _ _ (c .before .before .before .if2 .left)) (ap readTold (sym (c .before .opened2 .given .1)) ∙ ap (λ (j : Judgement). j .opened) j)
 
 pub receive-check-spec : {M : Type 1} → statement M
 receive-check-spec =
     tie.close
     (tie.spec
-    check-len-requires
-    enum-known-why
-    enum-told
-    first-reason-requires
+    is-far-requires
     returns
+    judge-requires
     returns-2
-    returns-3)
+    enum-known-opened
+    enum-known-opened-2
+    returns-3
+    returns-4)

@@ -1,0 +1,72 @@
+-- What an answer of the dispatch on bytes says of the packet: the answer is told as the definition, and a paper is taken apart by its values.
+-- Assumes nothing.
+use Prim.Native.Nat.{ℕ, _+_, _-_, _<_, _≤_}
+use mathlib.Core.Bool.{Bool, true, false, false≢true, cond}
+use mathlib.Core.Path.{_≡_, refl, sym, ap, _∙_}
+use mathlib.Core.List.{List, [], _∷_}
+use native.Mathlib.Omega.{arith}
+use lib.Dec.{eqb}
+use lib.ListN.{length, getD, drop}
+use borrow.Author.Tests.{ltb-true, lt-ltb}
+use Rattle.paper.specs.Paper.{Paper, refuses, gives}
+use Rattle.refusal.specs.declared.Refusal.{Refusal}
+use Rattle.refusal.specs.Paper.{refusal}
+use Rattle.refusal.proofs.Paper.{refusal-numbered}
+use Rattle.message_table.specs.Table.{rows, rowOf, known, fixedLen, isNdp}
+use Rattle.packet_length.proofs.Laws.{Between}
+use Rattle.icmpv6_payload_slice.specs.declared.Icmpv6PayloadSlice.{Icmpv6PayloadSlice}
+use Rattle.icmpv6_payload_slice.specs.declared.PayloadRead.{PayloadRead}
+use Rattle.icmpv6_payload_slice.specs.declared.PayloadRead.the-variants.{Payload, Refused}
+use Rattle.icmpv6_payload_slice.specs.Dispatch.{kindOf, kindNumber, readTold, optionsAt, partsOf, payloadOf, kindAt, byBytes}
+use Rattle.icmpv6_payload_slice.proofs.Laws.{fitting, not-short, is-short, options-within}
+
+-- a type that has some code has code 0
+pub known-0 : (k c : ℕ) → known k c ≡ true → known k 0 ≡ true
+unfolding known
+known-0 k c e = let l = ltb-true c (rowOf rows k .codes) e in lt-ltb 0 (rowOf rows k .codes) (omega arith)
+
+raw-first : (s : List ℕ) → getD (kindOf 0 s) 0 0 ≡ 0
+unfolding known
+raw-first s = refl
+
+-- the kind of a packet is told as its first number
+pub kind-first : (p s : List ℕ) → getD (kindOf (kindAt p) s) 0 0 ≡ kindAt p
+kind-first p s = by (known (getD p 0 0) (getD p 1 0)) refl
+  where
+    by : (b : Bool) → known (getD p 0 0) (getD p 1 0) ≡ b → getD (kindOf (cond b (getD p 0 0) 0) s) 0 0 ≡ cond b (getD p 0 0) 0
+    by true e = rw (known-0 (getD p 0 0) (getD p 1 0) e)
+    by false e = raw-first s
+
+-- what is handed on of a packet whose parts are all there
+pub record Opened (p : List ℕ) (m : Icmpv6PayloadSlice) : Type 0 where
+  pub payload : m .«payload_at» ≡ 8
+  pub options : m .«options_at» ≡ optionsAt 8 (kindAt p) (length p)
+  pub kind : kindNumber (m .kind) ≡ kindAt p
+  pub fixed : 8 + fixedLen (kindAt p) ≤ length p
+  pub within : m .«options_at» ≤ length p
+  pub told : byBytes p ≡ partsOf 8 (kindAt p) p
+
+module _ (p : List ℕ) (fits : Between (length p)) (x : PayloadRead) (e : readTold x ≡ byBytes p) where
+  here : payloadOf 8 (kindAt p) p ≡ readTold x
+  here = sym (fitting p fits) ∙ sym e
+
+  pub opened : {m : Icmpv6PayloadSlice} → x ≡ Payload m → Opened p m
+  opened {m} arm =
+      let h = not-short 8 (kindAt p) p (readTold (Payload m)) (λ z. omega (arith, z)) (here ∙ ap readTold arm) in
+      let at : m .«options_at» ≡ optionsAt 8 (kindAt p) (length p) = ap (λ (q : Paper). getD (q .values) 1 0) (h .1) in
+      let in′ : optionsAt 8 (kindAt p) (length p) ≤ length p = options-within 8 (kindAt p) p (fits .low) (h .0) in
+      record {
+        payload = ap (λ (q : Paper). getD (q .values) 0 0) (h .1);
+        options = at;
+        kind = ap (λ (q : Paper). getD (drop 2 (q .values)) 0 0) (h .1) ∙ kind-first p (drop 8 p);
+        fixed = omega (arith, h .0, fits .low);
+        within = rw at in′;
+        told = fitting p fits ∙ here ∙ ap readTold arm ∙ h .1;
+      }
+
+  -- where it is refused, it is refused 4
+  pub short-refused : {why : Refusal} → x ≡ Refused why → byBytes p .number ≡ 4
+  short-refused {why} arm =
+      let n : (refusal why .number ≡ 0 → ⊥) = λ z. false≢true (sym (refusal-numbered why) ∙ ap (λ (n : ℕ). eqb n 0) z) in
+      let h = is-short 8 (kindAt p) p (refusal why) n (here ∙ ap readTold arm) in
+      ap (λ (q : Paper). q .number) (sym e ∙ ap readTold arm ∙ h .1)
