@@ -1,18 +1,17 @@
--- Document 01's listing, byte for byte, by computation of the definitions.
+-- The worked listing, byte for byte, by computation of the definitions.
 -- Assumes nothing.
 use Prim.Native.Nat.{ℕ, zero, suc}
 use mathlib.Core.Path.{_≡_, refl}
 use mathlib.Core.List.{List, [], _∷_, _++_}
 use Rattle.packet_length.specs.Length.{sized}
 use Rattle.message_table.specs.Table.{known, fixedLen}
-use Rattle.icmpv6_type.specs.Value.{typeOf}
-use Rattle.icmpv6.specs.Head.{decodeOf}
+use Rattle.icmpv6_payload_slice.specs.Dispatch.{payloadOf, byBytes}
 use Rattle.checksum.specs.Ones.{_⊕_}
 use Rattle.checksum.specs.Icmpv6.{sumOf, verdictOf}
 use Rattle.wire.specs.Prefix.{begins}
 use Rattle.receive.specs.Reasons.{firstOf}
 use Rattle.receive.specs.Rules.{ownOf}
-use Rattle.receive.specs.Receive.{reasons, receiveOf}
+use Rattle.receive.specs.Receive.{optionReasons, reasons, reasonOf}
 use Rattle.ndp_walk.specs.Judge.{judge}
 use Rattle.ndp_walk.specs.Walk.{walkOn, walkFrom}
 use Rattle.ndp_options.specs.Rule.{rule}
@@ -43,5 +42,5 @@ packet low units = 133 ∷ 0 ∷ 122 ∷ low ∷ 0 ∷ 0 ∷ 0 ∷ 0 ∷ 1 ∷ u
 
 document : listingOf (recordBytes 255 source destination (packet 44 1) ++ recordBytes 255 source destination (packet 45 0))
     ≡ ascii "icmp6 1\nrecord 1 at 0\nrs code 0 sum 7a2c ok len 16 recv 0\nopt 0 type 1 bytes 8\nend 1\nrecord 2 at 53\nrs code 0 sum 7a2d ok len 16 recv 5\nrefused 6 at 0\nrecords 2\n"
-unfolding zeros source destination packet sized known fixedLen typeOf decodeOf _⊕_ sumOf verdictOf begins firstOf ownOf reasons receiveOf judge walkOn walkFrom rule occurs decimalBy decimal field recordBytes recordOf captureBy captureFrom headText itemsText optionsText packetText recordText recordsText restText
+unfolding zeros source destination packet sized known fixedLen payloadOf byBytes _⊕_ sumOf verdictOf begins firstOf ownOf optionReasons reasons reasonOf judge walkOn walkFrom rule occurs decimalBy decimal field recordBytes recordOf captureBy captureFrom headText itemsText optionsText packetText recordText recordsText restText
 document = refl

@@ -1,26 +1,34 @@
 -- The text of a walk, option by option, and the cases of a packet's text.
 -- Assumes nothing.
-use Prim.Native.Nat.{ℕ, _+_, _-_, _<_, _≤_}
-use mathlib.Core.Path.{_≡_, refl, ap}
-use mathlib.Core.Bool.{true, false}
+use Prim.Native.Nat.{ℕ, _+_, _-_, _≤_}
+use mathlib.Core.Path.{_≡_, refl, sym, ap, _∙_}
+use mathlib.Core.Bool.{Bool, true, false, cond}
 use mathlib.Core.List.{List, [], _∷_, _++_, append-assoc}
 use native.Mathlib.Omega.{arith}
 use native.Mathlib.Nat.{add-zero}
-use lib.ListN.{length, drop}
-use lib.Dec.{eqb}
-use borrow.Author.Tests.{lt-ltb, le-ltb}
-use Rattle.paper.specs.Paper.{Paper, gives}
+use lib.ListN.{length, getD, drop}
+use Rattle.paper.specs.Paper.{Paper}
 use Rattle.refusal.specs.declared.Refusal.{Refusal}
 use Rattle.refusal.specs.Table.{number}
 use Rattle.refusal.specs.Paper.{refusal}
-use Rattle.refusal.proofs.Paper.{refusal-numbered}
-use Rattle.packet_length.proofs.Laws.{behind}
-use Rattle.message_table.specs.Table.{fixedLen, isNdp}
-use Rattle.icmpv6.specs.Head.{decodeOf}
+use Rattle.packet_length.specs.Length.{fits}
+use Rattle.packet_length.proofs.Laws.{Between, behind, fits-between, fits-or}
+use Rattle.message_table.specs.Table.{known, fixedLen, isNdp}
+use Rattle.message_table.proofs.Laws.{fixed-outside}
+use Rattle.icmpv6_payload_slice.specs.declared.Icmpv6PayloadSlice.{Icmpv6PayloadSlice}
+use Rattle.icmpv6_payload_slice.specs.declared.PayloadRead.{PayloadRead}
+use Rattle.icmpv6_payload_slice.specs.declared.PayloadRead.the-variants.{Payload, Refused}
+use Rattle.icmpv6_payload_slice.specs.Dispatch.{kindNumber, readTold, optionsAt, kindAt, byBytes}
+use Rattle.receive.specs.Receive.{isSound, reasonOf}
+use Rattle.wire.specs.Wire.{word16At}
+use Rattle.lines.specs.declared.Line.the-variants.{Head}
+use Rattle.lines.specs.Line.{text}
+use Rattle.icmpv6_payload_slice.proofs.Laws.{whole, other-pair}
+use Rattle.icmpv6_payload_slice.proofs.Opened.{opened, short-refused}
 use Rattle.ndp_options.specs.Walk.{walk}
 use Rattle.ndp_walk.specs.Walk.{Item, Walk, then, clean, refused}
 use Rattle.lines.specs.Text.{optLine, endLine, refusedAtLine, refusedLine}
-use Rattle.listing.specs.Packet.{kindOf, headText, itemsText, endingText, walkText, optionsText, packetText}
+use Rattle.listing.specs.Packet.{headText, itemsText, endingText, walkText, optionsText, packetText}
 
 -- an option, and the walk behind it
 pub one-more : (n : ℕ) (i : Item) (w : Walk) → walkText n (then (i ∷ []) w) ≡ optLine (i .at) (i .type) (i .len) ++ walkText (n + 1) w
@@ -37,30 +45,68 @@ pub stopped-by : (n at : ℕ) (why : Paper) → walkText n (refused at why) ≡ 
 unfolding itemsText
 stopped-by n at why = refl
 
--- the options of a kind
-module _ (kind : ℕ) (p : List ℕ) where
-  pub none-shown : isNdp kind ≡ false → optionsText kind p ≡ []
-  unfolding optionsText
-  none-shown h = simp h
+-- the options begin behind the head
+pub behind-head : (k n : ℕ) → 8 ≤ n → 8 ≤ optionsAt 8 k n
+behind-head k n h = by (isNdp k)
+  where
+    by : (b : Bool) → 8 ≤ cond b (8 + fixedLen k) n
+    by true = omega arith
+    by false = h
 
-  pub part-cut : isNdp kind ≡ true → length p - 8 < fixedLen kind → optionsText kind p ≡ refusedLine 4
-  unfolding optionsText
-  part-cut h k = simp (h, lt-ltb _ _ k)
+-- the line of a head
+pub head-line : (hop : ℕ) (source destination p : List ℕ) {kind reason : ℕ} {ok : Bool} → kind ≡ kindAt p → ok ≡ isSound source destination p
+    → reason ≡ reasonOf hop source destination p
+    → headText hop source destination p ≡ text (Head kind (getD p 1 0) (word16At p 2) ok (length p) reason)
+unfolding headText
+head-line hop source destination p k o r = rw (k, o, r)
 
-  pub all-shown : isNdp kind ≡ true → fixedLen kind ≤ length p - 8 → optionsText kind p ≡ walkText 0 (walk (drop (8 + fixedLen kind) p))
-  unfolding optionsText
-  all-shown h k = simp (h, le-ltb _ _ k)
+-- ---- a packet, by what the dispatch answers
+module _ (hop : ℕ) (source destination p : List ℕ) (x : PayloadRead) (e : readTold x ≡ byBytes p) where
+  -- where it is refused for another reason than its fixed part, that is its length
+  misfit-4 : {why : Refusal} → x ≡ Refused why → (number why ≡ 4 → ⊥) → fits (length p) ≡ false
+  misfit-4 {why} arm n = by (fits (length p)) refl
+    where
+      by : (b : Bool) → fits (length p) ≡ b → b ≡ false
+      by true f = absurd (n (ap (λ (q : Paper). q .number) (sym (ap readTold arm) ∙ e) ∙ short-refused p (fits-or (length p) f) x e arm))
+      by false f = refl
 
-module _ (hop : ℕ) (source destination p : List ℕ) where
-  pub not-decoded : (why : Refusal) → decodeOf p ≡ refusal why → packetText hop source destination p ≡ refusedLine (number why)
+  pub not-opened : {why : Refusal} → x ≡ Refused why → (number why ≡ 4 → ⊥) → packetText hop source destination p ≡ refusedLine (number why)
   unfolding packetText
-  not-decoded why e = simp (e, refusal-numbered why)
+  not-opened {why} arm n = rw (misfit-4 arm n, ← e, arm)
 
-  pub decoded : (l : List ℕ) → decodeOf p ≡ gives l → packetText hop source destination p ≡ headText hop source destination p ++ optionsText (kindOf p) p
-  unfolding packetText
-  decoded l e = rw (ap (λ (a : Paper). eqb (a .number) 0) e)
+  -- else it has a head
+  pub has-head : {m : Icmpv6PayloadSlice} → x ≡ Payload m → Between (length p)
+  unfolding byBytes
+  has-head {m} arm = behind (length p) _ (readTold (Payload m)) (λ z. omega arith) (λ z. omega arith) (sym e ∙ ap readTold arm) .0
 
--- a packet that is decoded has a head
-pub has-head : (p l : List ℕ) → decodeOf p ≡ gives l → 8 ≤ length p
-unfolding decodeOf
-has-head p l e = behind (length p) _ (gives l) (λ z. omega arith) (λ z. omega arith) e .0 .low
+  pub has-head-4 : {why : Refusal} → x ≡ Refused why → number why ≡ 4 → Between (length p)
+  unfolding byBytes
+  has-head-4 {why} arm n =
+      behind (length p) _ (refusal why) (λ z. omega (arith, n, z)) (λ z. omega (arith, n, z)) (sym e ∙ ap readTold arm) .0
+
+  pub shown : {m : Icmpv6PayloadSlice} → x ≡ Payload m →
+      packetText hop source destination p
+      ≡ headText hop source destination p ++ cond (isNdp (kindNumber (m .kind))) (walkText 0 (walk (drop (m .«options_at») p))) []
+  unfolding packetText optionsText
+  shown {m} arm =
+      let b = has-head arm in
+      let o = opened p b x e arm in
+      rw (fits-between (length p) (b .low) (b .high), ap (λ (q : Paper). q .number) (o .told), o .kind, o .options)
+
+  pub cut : {why : Refusal} → x ≡ Refused why → number why ≡ 4 → packetText hop source destination p ≡ headText hop source destination p ++ refusedLine 4
+  unfolding packetText optionsText
+  cut {why} arm n =
+      let b = has-head-4 arm n in
+      rw (fits-between (length p) (b .low) (b .high), short-refused p b x e arm)
+
+  -- and then its kind is its type: a pair that is not in the table lacks no fixed part
+  pub cut-kind : {why : Refusal} → x ≡ Refused why → number why ≡ 4 → kindAt p ≡ getD p 0 0
+  cut-kind {why} arm n = by (known (getD p 0 0) (getD p 1 0)) refl
+    where
+      by : (b : Bool) → known (getD p 0 0) (getD p 1 0) ≡ b → cond b (getD p 0 0) 0 ≡ getD p 0 0
+      by true k = refl
+      by false k =
+          let f = has-head-4 arm n in
+          let none : fixedLen 0 ≤ length p - 8 = omega (arith, fixed-outside 0 refl) in
+          let is : byBytes p .number ≡ 0 = ap (λ (q : Paper). q .number) (other-pair p f k ∙ whole 8 0 p none) in
+          absurd (omega (arith, is, short-refused p f x e arm))

@@ -1,36 +1,27 @@
--- Document 01, "The dump and its records": the text of one record, over the decode, the verdict, the receive check and the option walk.
+-- The text of one record, over the dispatch, the verdict, the receive check and the option walk.
 -- Assumes nothing.
-use Prim.Native.Nat.{ℕ, _+_, _-_}
+use Prim.Native.Nat.{ℕ, _+_}
 use mathlib.Core.Bool.{cond}
 use mathlib.Core.List.{List, [], _∷_, _++_}
-use lib.Dec.{ltb, eqb}
-use lib.ListN.{length, getD, drop}
-use Rattle.paper.specs.Paper.{Paper, value}
-use Rattle.message_table.specs.Table.{fixedLen, isNdp}
-use Rattle.icmpv6.specs.Head.{decodeOf}
-use Rattle.checksum.specs.Icmpv6.{verdictOf}
-use Rattle.checksum.specs.Fields.{isValid}
-use Rattle.receive.specs.Receive.{receiveOf}
+use lib.Dec.{eqb}
+use lib.ListN.{length, getD}
+use Rattle.paper.specs.Paper.{Paper}
+use Rattle.wire.specs.Wire.{word16At}
+use Rattle.packet_length.specs.Length.{fits}
+use Rattle.message_table.specs.Table.{isNdp}
+use Rattle.icmpv6_payload_slice.specs.Dispatch.{kindAt, byBytes}
+use Rattle.receive.specs.Receive.{optionsOf, isSound, reasonOf}
 use Rattle.ndp_walk.specs.Walk.{Item, Ending, Clean, RefusedAt, Walk}
 use Rattle.ndp_options.specs.Walk.{walk}
+use Rattle.output.specs.Output.{roomFor, leaves}
+use Rattle.capture.specs.Record.{recorded}
 use Rattle.lines.specs.Line.{wordFor, okWord}
 use Rattle.lines.specs.Text.{recordLine, headLine, optLine, endLine, refusedAtLine, refusedLine}
 
--- 0 of a packet that is received, else the reason
-abbrev pub recvOf : Paper → ℕ
-recvOf p = cond (eqb (p .number) 11) (value 0 p) 0
-
--- what the decode tells: the checksum field, then the kind
-abbrev pub sumOf : List ℕ → ℕ
-sumOf p = value 0 (decodeOf p)
-
-abbrev pub kindOf : List ℕ → ℕ
-kindOf p = value 1 (decodeOf p)
-
+-- the kind, the code, the checksum field and the verdict on it, the length, and the reason of the receive check
 unfoldable pub headText : ℕ → List ℕ → List ℕ → List ℕ → List ℕ
 headText hop source destination p =
-    headLine (wordFor (kindOf p)) (getD p 1 0) (sumOf p) (okWord (isValid (verdictOf source destination p))) (length p)
-    (recvOf (receiveOf hop source destination p))
+    headLine (wordFor (kindAt p)) (getD p 1 0) (word16At p 2) (okWord (isSound source destination p)) (length p) (reasonOf hop source destination p)
 
 -- a line for each option
 unfoldable pub itemsText : List Item → List ℕ
@@ -46,21 +37,23 @@ endingText n (RefusedAt at why) = refusedAtLine (why .number) at
 abbrev pub walkText : ℕ → Walk → List ℕ
 walkText n w = itemsText (w .items) ++ endingText (n + length (w .items)) (w .ending)
 
--- option lines only for rs to redirect, the messages of Neighbor Discovery; behind the fixed part, or `refused 4`
-unfoldable pub optionsText : ℕ → List ℕ → List ℕ
-optionsText kind p =
-    let fixed = fixedLen kind in
-    cond (isNdp kind)
-    (cond (ltb (length p - 8) fixed) (refusedLine 4)
-    (walkText 0 (walk (drop (8 + fixed) p))))
-    []
+-- option lines only for rs to redirect, the messages of Neighbor Discovery; `refused 4` where the fixed part is not all there
+unfoldable pub optionsText : List ℕ → List ℕ
+optionsText p =
+    cond (eqb (byBytes p .number) 4) (refusedLine 4)
+    (cond (isNdp (kindAt p)) (walkText 0 (walk (optionsOf p))) [])
 
--- a packet that is not decoded prints its refusal only
+-- a packet whose length is refused prints its refusal only
 unfoldable pub packetText : ℕ → List ℕ → List ℕ → List ℕ → List ℕ
 packetText hop source destination p =
-    cond (eqb (decodeOf p .number) 0)
-    (headText hop source destination p ++ optionsText (kindOf p) p)
-    (refusedLine (decodeOf p .number))
+    cond (fits (length p)) (headText hop source destination p ++ optionsText p) (refusedLine (byBytes p .number))
 
 unfoldable pub recordText : ℕ → ℕ → ℕ → List ℕ → List ℕ → List ℕ → List ℕ
 recordText number place hop source destination p = recordLine number place ++ packetText hop source destination p
+
+-- the text of a packet's record put at a place: refusal 13 of a packet that no record holds, then 9, or the place behind the text
+abbrev pub putOf : List ℕ → List ℕ → List ℕ → ℕ → Paper
+putOf packet text out at = recorded packet (roomFor (length text) out at)
+
+abbrev pub putLeaves : List ℕ → List ℕ → List ℕ → ℕ → List ℕ
+putLeaves packet text out at = leaves (putOf packet text out at) out at text

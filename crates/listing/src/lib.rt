@@ -1,20 +1,20 @@
 // The text of one record, written into a lent buffer: its place, what its packet is, and the options of a Neighbor Discovery message.
 ghost use mathlib.Core.Path.{_≡_};
 ghost use Prim.Native.Nat.{_+_, _*_, _≤_};
-ghost use lib.ListN.{length};
-ghost use Rattle.output.specs.Output.{writtenTold, roomFor, leaves, Wrote};
-ghost use Rattle.capture.specs.Record.{recorded};
-ghost use Rattle.receive.specs.Receive.{receiveOf};
+ghost use mathlib.Core.Bool.{cond};
+ghost use mathlib.Core.List.{[]};
+ghost use lib.ListN.{length, getD, drop};
+ghost use Rattle.wire.specs.Wire.{word16At};
+ghost use Rattle.output.specs.Output.{writtenTold, Wrote};
 ghost use Rattle.ndp_options.specs.Walk.{walk};
 ghost use Rattle.lines.specs.Line.{text};
-ghost use Rattle.listing.specs.Packet.{recvOf, walkText, optionsText, packetText, recordText};
-use icmpv6::icmpv6_header::HeaderRead;
-use icmpv6::icmpv6_header::Icmpv6Header;
+ghost use Rattle.message_table.specs.Table.{isNdp};
+ghost use Rattle.listing.specs.Packet.{walkText, packetText, recordText, putOf, putLeaves};
+use icmpv6_payload_slice::PayloadRead;
 use lines::Line;
 use ndp_options::Cursor;
 use ndp_options::Step;
 use output::Written;
-use receive::Received;
 use refusal::Refusal;
 
 // No record's text has more bytes: three lines, and one for every eight bytes of options.
@@ -31,8 +31,8 @@ pub fn put_record(
     destination: &[u8; 16],
     packet: &[u8],
 ) -> Written
-    ensures answers { λ r. ⌜ (writtenTold r ≡ recorded (now (packet .entry)) (roomFor (length (recordText number place «hop_limit» (now (source .entry)) (now (destination .entry)) (now (packet .entry)))) (now (out .entry)) at)) × (length (now (packet .entry)) ≤ 2048 → length (recordText number place «hop_limit» (now (source .entry)) (now (destination .entry)) (now (packet .entry))) ≤ 33024) ⌝ }
-    ensures lent { λ r. ⌜ now (out .exit) ≡ leaves (recorded (now (packet .entry)) (roomFor (length (recordText number place «hop_limit» (now (source .entry)) (now (destination .entry)) (now (packet .entry)))) (now (out .entry)) at)) (now (out .entry)) at (recordText number place «hop_limit» (now (source .entry)) (now (destination .entry)) (now (packet .entry))) ⌝ }
+    ensures answers { λ r. ⌜ (writtenTold r ≡ putOf (now (packet .entry)) (recordText number place «hop_limit» (now (source .entry)) (now (destination .entry)) (now (packet .entry))) (now (out .entry)) at) × (length (now (packet .entry)) ≤ 2048 → length (recordText number place «hop_limit» (now (source .entry)) (now (destination .entry)) (now (packet .entry))) ≤ 33024) ⌝ }
+    ensures lent { λ r. ⌜ now (out .exit) ≡ putLeaves (now (packet .entry)) (recordText number place «hop_limit» (now (source .entry)) (now (destination .entry)) (now (packet .entry))) (now (out .entry)) at ⌝ }
 {
     let len = packet.len();
     if capture::MAX_PACKET_LEN < len {
@@ -95,56 +95,54 @@ fn put_packet(
     ensures wrote { λ r. ⌜ Wrote (now (out .entry)) at (packetText «hop_limit» (now (source .entry)) (now (destination .entry)) (now (packet .entry))) (now (out .exit)) r ⌝ }
     ensures short { λ r. ⌜ r ≤ at + 32896 ⌝ }
 {
-    match Icmpv6Header::from_slice(packet) {
-        HeaderRead::Refused(why) => put_line(
-            out,
-            at,
-            Line::Refused {
-                number: why.number(),
-            },
-        ),
-        HeaderRead::Header(header) => {
-            let value = header.icmp_type;
-            let kind = value.kind_u8();
-            let line = Line::Head {
-                kind,
-                code: packet[1],
-                sum: header.checksum,
-                ok: checksum::validates(packet, source, destination),
-                len: packet.len() as u64,
-                recv: reason_of(packet, hop_limit, source, destination),
-            };
-            let next = put_line(out, at, line);
-            put_options(out, next, kind, packet)
+    let judged = receive::judge(packet, hop_limit, source, destination);
+    let opened = judged.opened;
+    match opened {
+        PayloadRead::Payload(message) => {
+            let kind = message.kind;
+            let kind_u8 = kind.type_u8();
+            let next = put_head(out, at, kind_u8, packet, judged.valid, judged.reason);
+            put_options(out, next, kind_u8, packet, message.options_at)
+        }
+        PayloadRead::Refused(why) => {
+            let number = why.number();
+            if number != 4 {
+                return put_line(out, at, Line::Refused { number });
+            }
+            // Only a type that the table has lacks a fixed part.
+            let next = put_head(out, at, packet[0], packet, judged.valid, judged.reason);
+            put_line(out, next, Line::Refused { number })
         }
     }
 }
 
-// The reason of the receive check, or 0.
-fn reason_of(packet: &[u8], hop_limit: u8, source: &[u8; 16], destination: &[u8; 16]) -> u64
-    ensures { λ r. ⌜ r ≡ recvOf (receiveOf «hop_limit» (now (source .entry)) (now (destination .entry)) (now (packet .entry))) ⌝ }
+// The line of a packet's head, whose kind, verdict and reason are given.
+fn put_head(out: &mut [u8], at: usize, kind: u8, packet: &[u8], ok: bool, reason: u8) -> usize
+    requires { ⌜ (at + 128 ≤ length (now out)) × (8 ≤ length (now packet)) × (length (now packet) ≤ 2048) ⌝ }
+    ensures wrote { λ r. ⌜ Wrote (now (out .entry)) at (text (Line.Head kind (getD (now (packet .entry)) 1 0) (word16At (now (packet .entry)) 2) ok (length (now (packet .entry))) reason)) (now (out .exit)) r ⌝ }
+    ensures short { λ r. ⌜ r ≤ at + 128 ⌝ }
 {
-    match receive::receive_check(packet, hop_limit, source, destination) {
-        Received::Accepted => 0,
-        Received::Refused(why) => { if why.number() == 11 { why.value(0) } else { 0 } }
-    }
+    let line = Line::Head {
+        kind,
+        code: packet[1],
+        sum: wire::u16_from_be(packet[2], packet[3]),
+        ok,
+        len: packet.len() as u64,
+        recv: reason as u64,
+    };
+    put_line(out, at, line)
 }
 
-// The option lines of rs to redirect, the messages of Neighbor Discovery.
-fn put_options(out: &mut [u8], at: usize, kind: u8, packet: &[u8]) -> usize
-    requires { ⌜ (at + 32768 ≤ length (now out)) × (8 ≤ length (now packet)) × (length (now packet) ≤ 2048) ⌝ }
-    ensures wrote { λ r. ⌜ Wrote (now (out .entry)) at (optionsText kind (now (packet .entry))) (now (out .exit)) r ⌝ }
+// The option lines of rs to redirect, the messages of Neighbor Discovery, from their place on.
+fn put_options(out: &mut [u8], at: usize, kind: u8, packet: &[u8], from: usize) -> usize
+    requires { ⌜ (at + 32768 ≤ length (now out)) × (8 ≤ from) × (from ≤ length (now packet)) × (length (now packet) ≤ 2048) ⌝ }
+    ensures wrote { λ r. ⌜ Wrote (now (out .entry)) at (cond (isNdp kind) (walkText 0 (walk (drop from (now (packet .entry))))) []) (now (out .exit)) r ⌝ }
     ensures short { λ r. ⌜ r ≤ at + 32768 ⌝ }
 {
-    if !message_table::is_ndp(kind) {
-        return at;
+    if message_table::is_ndp(kind) {
+        return put_walk(out, at, &packet[from..]);
     }
-    let fixed = message_table::fixed_len(kind);
-    if packet.len() - 8 < fixed {
-        return put_line(out, at, Line::Refused { number: 4 });
-    }
-    let from = 8 + fixed;
-    put_walk(out, at, &packet[from..])
+    at
 }
 
 // A line for each option, and the ending of the walk.
