@@ -1,0 +1,447 @@
+"""rattle_source: the tree as the prover sees it, for the scripts of tools/: source without comments, every module that a `mod` leads to (files below
+files, modules within files) and no other file, every declaration by its whole name. What a script cannot read is an error, never skipped."""
+import dataclasses
+import functools
+import os
+import re
+
+ROOT = os.path.dirname(os.path.dirname(os.path.abspath(__file__)))
+
+
+# ---- the tree
+
+@functools.cache
+def dependencies():
+    """crates.txt: each crate, in its order, with the crates that it is built on."""
+    lines = [x.split("#")[0].strip() for x in read("crates.txt").split("\n")]
+    return {x.split(":")[0].strip(): x.split(":")[1].split() for x in lines if x}
+
+
+def crates():
+    return list(dependencies())
+
+
+def libraries():
+    return [c for c in crates() if os.path.exists(f"{ROOT}/crates/{c}/src/lib.rt")]
+
+
+def programs():
+    return [c for c in crates() if os.path.exists(f"{ROOT}/crates/{c}/src/main.rt")]
+
+
+@functools.cache
+def read(path):
+    """A file of the tree, by its path from the root."""
+    with open(f"{ROOT}/{path}") as f:
+        return f.read()
+
+
+def exists(path):
+    return os.path.exists(f"{ROOT}/{path}")
+
+
+def files_below(folder, ending):
+    """The files of a folder and those below it, by their paths from the root."""
+    found = []
+    for at, _, names in os.walk(f"{ROOT}/{folder}"):
+        found += [os.path.relpath(f"{at}/{n}", ROOT) for n in names if f"/{n}".endswith(ending)]
+    return sorted(found)
+
+
+def blank(text):
+    """As many blanks, on as many lines."""
+    return re.sub(r"[^\n]", " ", text)
+
+
+# ---- Rattle
+
+RATTLE = re.compile(r"""(?P<comment>//[^\n]*)|(?P<block>/\*)|(?P<text>b?"(?:\\.|[^"\\])*"|b?'(?:\\[^']*|[^'\\])')""", re.S)
+
+
+def rattle_code(text, texts=True):
+    """Rattle source with each comment as blanks (and each quoted text too, if so asked): every line and column stays."""
+    out, at = [], 0
+    for m in iter(lambda: RATTLE.search(text, at), None):
+        out.append(text[at:m.start()])
+        end = m.end()
+        if m["block"]:
+            depth = 1
+            while depth:
+                mark = re.compile(r"/\*|\*/").search(text, end)
+                if not mark:
+                    raise SyntaxError("a comment has no end")
+                depth, end = depth + (1 if mark[0] == "/*" else -1), mark.end()
+        piece = text[m.start():end]
+        out.append(piece if m["text"] and texts else blank(piece))
+        at = end
+    return "".join(out) + text[at:]
+
+
+@dataclasses.dataclass(frozen=True)
+class Item:
+    """A function, type or constant of a crate's source."""
+    crate: str
+    path: str        # from the crate's root: module::Owner::name
+    kind: str        # fn, struct, enum, const, static, type, trait, union
+    public: bool     # marked `pub` (a function of a private module too: a `pub use` may pass it on)
+    file: str
+    first: int       # its first and last line, from 0
+    last: int
+    text: str        # all of it, without comments and attributes
+    head: str        # a function up to its body: signature and clauses
+    body: str
+    clauses: tuple   # of a function: ghost, requires, ensures
+    attributes: tuple
+    extern: bool     # for C
+
+    @property
+    def name(self):
+        return f"{self.crate}::{self.path}"
+
+    @property
+    def asks(self):
+        """Whether a function asks something of its caller."""
+        return "requires" in self.clauses or "ghost" in self.clauses
+
+
+MARKS = re.compile(r'pub\s*\([^)]*\)|(?:pub|unsafe|async|default|extern|const(?=\s+(?:unsafe|extern|fn)\b)|ghost(?=\s+use\b))\b|""|"\s*"')
+CLAUSES = ("ghost", "requires", "ensures")
+
+
+class Source:
+    """One source file, read item by item."""
+
+    def __init__(self, crate, file):
+        self.crate, self.file = crate, file
+        self.code = rattle_code(read(file))
+        self.bare = rattle_code(read(file), texts=False)
+        self.found, self.modules = [], []
+
+    def fail(self, at, why):
+        raise SyntaxError(f"{self.file}:{self.bare.count(chr(10), 0, at) + 1}: {why}")
+
+    def close(self, at):
+        """The place behind the bracket that closes the one at a place."""
+        pairs, open_ = {"(": ")", "[": "]", "{": "}"}, []
+        for i in range(at, len(self.bare)):
+            c = self.bare[i]
+            if c in pairs:
+                open_.append(pairs[c])
+            elif c in ")]}":
+                if not open_ or open_.pop() != c:
+                    self.fail(i, f"{c} closes nothing")
+                if not open_:
+                    return i + 1
+        self.fail(at, f"{self.bare[at]} is not closed")
+
+    def until(self, at, stops):
+        """The place of the first of some characters outside of brackets."""
+        while at < len(self.bare):
+            if self.bare[at] in stops:
+                return at
+            at = self.close(at) if self.bare[at] in "([{" else at + 1
+        self.fail(len(self.bare) - 1, f"no {' or '.join(stops)} follows")
+
+    def add(self, kind, path, public, start, end, attributes, extern=False, body=None, clauses=()):
+        line = lambda at: self.bare.count("\n", 0, at)
+        body = end if body is None else body
+        cut = lambda a, b: "\n".join(x.rstrip() for x in self.code[a:b].rstrip().split("\n"))
+        indent = start - (self.bare.rfind("\n", 0, start) + 1)
+        flush = lambda t: re.sub(rf"\n {{1,{indent}}}", "\n", t) if indent else t
+        self.found.append(Item(self.crate, path, kind, public, self.file, line(start), line(end - 1), flush(cut(start, end)), flush(cut(start, body)),
+                               cut(body, end), tuple(clauses), tuple(attributes), extern))
+
+    def scan(self, at, end, module, owner=""):
+        """The items between two places, which stand in a module, or in the `impl` of an owner."""
+        prefix = "".join(m + "::" for m in module) + owner
+        while True:
+            at += len(self.bare[at:end]) - len(self.bare[at:end].lstrip())
+            if at >= end:
+                return
+            if self.bare[at] == ";":
+                at += 1
+                continue
+            attributes = []
+            while self.bare[at] == "#":
+                to = self.close(self.bare.index("[", at))
+                attributes.append(self.code[at:to])
+                at = to + len(self.bare[to:]) - len(self.bare[to:].lstrip())
+            start, marks = at, []
+            while True:
+                mark = MARKS.match(self.code, at)
+                # the C of `extern "C"`
+                quoted = re.compile(r'"[^"]*"').match(self.code, at)
+                if quoted and marks and marks[-1] == "extern":
+                    mark = quoted
+                if not mark:
+                    break
+                marks.append(mark[0])
+                at = mark.end() + len(self.bare[mark.end():]) - len(self.bare[mark.end():].lstrip())
+            public = "pub" in marks
+            word = re.compile(r"(\w+)\s*(?:<[^>{(]*>\s*)?(\w*)").match(self.bare, at)
+            keyword, name = (word[1], word[2]) if word else ("", "")
+            if keyword == "fn":
+                at = self.function(at, start, prefix + name, public, attributes, "extern" in marks)
+            elif keyword == "mod":
+                to = self.until(at, ";{")
+                if self.bare[to] == "{":
+                    at = self.close(to)
+                    self.modules.append((tuple(module) + (name,), None))
+                    self.scan(to + 1, at - 1, [*module, name])
+                else:
+                    self.modules.append((tuple(module) + (name,), tuple(module)))
+                    at = to + 1
+            elif keyword == "impl":
+                to = self.until(at, "{")
+                head = re.sub(r"<[^<>]*>", "", re.sub(r"<[^<>]*>", "", self.bare[at + 4:to]))
+                named = re.split(r"\bfor\b|\bwhere\b", head)
+                owner_name = (named[1] if re.search(r"\bfor\b", head) else named[0]).strip().split("::")[-1]
+                at = self.close(to)
+                self.scan(to + 1, at - 1, module, owner_name + "::")
+            elif keyword in ("use", "const", "static", "type"):
+                to = self.until(at, ";") + 1
+                if keyword != "use":
+                    self.add(keyword, prefix + name, public, start, to, attributes)
+                at = to
+            elif keyword in ("struct", "enum", "union", "trait"):
+                to = self.until(at, ";{")
+                to = to + 1 if self.bare[to] == ";" else self.close(to)
+                self.add(keyword, prefix + name, public, start, to, attributes)
+                at = to
+            elif "extern" in marks and self.bare[at] == "{":
+                to = self.close(at)
+                self.scan(at + 1, to - 1, module)
+                at = to
+            else:
+                self.fail(at, f"what is this: {self.bare[at:at + 40].split(chr(10))[0]}")
+
+    def function(self, at, start, path, public, attributes, extern):
+        """A function from its `fn` on. A brace behind the word of a clause, and its name, is that clause's; any other opens the
+        body."""
+        clauses = []
+        to = self.until(at, "(")
+        to = self.close(to)
+        while True:
+            to = self.until(to, ";{")
+            if self.bare[to] == ";":
+                self.add("fn", path, public, start, to + 1, attributes, extern, None, clauses)
+                return to + 1
+            word = re.search(rf"\b({'|'.join(CLAUSES)})(\s+\w+)?\s*$", self.bare[start:to])
+            if word:
+                clauses.append(word[1])
+                to = self.close(to)
+                continue
+            end = self.close(to)
+            self.add("fn", path, public, start, end, attributes, extern, to, clauses)
+            return end
+
+
+@functools.cache
+def sources(crate):
+    """The source files that are part of a crate, each with its module: those that `mod` lines lead to from lib.rt or main.rt."""
+    root = next(f for f in (f"crates/{crate}/src/lib.rt", f"crates/{crate}/src/main.rt") if exists(f))
+    found, todo = {}, [(root, (), f"crates/{crate}/src")]
+    while todo:
+        file, module, folder = todo.pop()
+        source = Source(crate, file)
+        source.scan(0, len(source.bare), list(module))
+        found[file] = (module, source)
+        for child, parent in source.modules:
+            if parent is None:
+                continue
+            below = folder + "".join("/" + m for m in parent[len(module):])
+            places = [f"{below}/{child[-1]}.rt", f"{below}/{child[-1]}/mod.rt"]
+            place = next((p for p in places if exists(p)), None)
+            if not place:
+                raise SyntaxError(f"{file}: mod {child[-1]}: there is no {places[0]}")
+            todo.append((place, child, f"{below}/{child[-1]}"))
+    return found
+
+
+@functools.cache
+def items(crate):
+    """Every function, type and constant of a crate, file by file."""
+    return [i for file in sorted(sources(crate)) for i in sources(crate)[file][1].found]
+
+
+def functions(crate):
+    return [i for i in items(crate) if i.kind == "fn"]
+
+
+def public_functions(crate):
+    return [i for i in functions(crate) if i.public]
+
+
+def stray(crate):
+    """Source, definitions and theorems in files that are no part of the crate."""
+    parts = set(sources(crate)) | set(modules(crate, "specs").values()) | set(modules(crate, "proofs").values())
+    there = files_below(f"crates/{crate}/src", ".rt") + [f for k in ("specs", "proofs") for f in files_below(f"crates/{crate}/{k}", ".antt")]
+    return [f for f in there if f not in parts]
+
+
+# ---- antt
+
+ANTT = re.compile(r'(?P<text>"(?:\\.|[^"\\])*")|(?P<name>«[^»\n]*»)|(?P<block>\{-)|(?<![^\s(){}\[\];,])(?P<comment>--[^\n]*)')
+
+
+def antt_code(text):
+    """antt without comments: `--` where a word could begin, and `{- -}`, which nest. Every line and column stays."""
+    out, at = [], 0
+    for m in iter(lambda: ANTT.search(text, at), None):
+        out.append(text[at:m.start()])
+        end = m.end()
+        if m["block"]:
+            depth = 1
+            while depth:
+                mark = re.compile(r"\{-|-\}").search(text, end)
+                if not mark:
+                    raise SyntaxError("a comment has no end")
+                depth, end = depth + (1 if mark[0] == "{-" else -1), mark.end()
+        piece = text[m.start():end]
+        out.append(blank(piece) if m["block"] or m["comment"] else piece)
+        at = end
+    return "".join(out) + text[at:]
+
+
+@dataclasses.dataclass(frozen=True)
+class Declaration:
+    """A definition or theorem of an antt file."""
+    name: str
+    kind: str        # def, axiom, data, record
+    marks: tuple     # abbrev, unfoldable, pub
+    under: tuple     # the heads of the `module _` blocks that it stands in, the outer first
+    type: str        # its signature, without marks
+    text: str        # all of it
+    line: int        # from 0
+    members: tuple   # of a record its fields, of a data type its constructors
+
+
+SIGNED = re.compile(r"((?:(?:unfoldable|abbrev|pub|axiom) )*)([^\s(){}:=]+)(?: \{[^}]*\})? :(?=\s|$)")
+TYPED = re.compile(r"((?:(?:unfoldable|abbrev|pub) )*)(data|record) ([^\s(){}:=]+)(?=\s|$)")
+OTHER = re.compile(r"(?:(?:unfoldable|pub) )*(?:use|mod|infix|infixl|infixr|ruleset|open|syntax)\b")
+
+
+@functools.cache
+def declarations(path):
+    """The declarations of an antt file, in its order."""
+    lines, found = [x.rstrip() for x in antt_code(read(path)).split("\n")], []
+    depth = lambda x: len(x) - len(x.lstrip())
+    whole = lambda part, by: "\n".join(x[by:] for x in part).rstrip()
+
+    def block(first, last, under):
+        at, current = first, None
+        while at < last:
+            if not lines[at]:
+                at += 1
+                continue
+            by, end = depth(lines[at]), at + 1
+            # a bracket that closes goes with what it closes
+            while end < last and (not lines[end] or depth(lines[end]) > by or lines[end].lstrip()[0] in ")]}"):
+                end += 1
+            line, part = lines[at].strip(), lines[at:end]
+            signed, typed = SIGNED.match(line), TYPED.match(line)
+            if re.match(r"(pub )?module\b", line) or line == "mutual":
+                head = at
+                while line != "mutual" and not re.search(r"(^|\s)where$", lines[head]):
+                    head += 1
+                    if head == end:
+                        raise SyntaxError(f"{path}:{at + 1}: module without where")
+                title = " ".join(x.strip() for x in lines[at:head + 1])
+                block(head + 1, end, under if line == "mutual" else under + (title,))
+                current = None
+            elif OTHER.match(line):
+                current = None
+            elif typed or signed:
+                m = typed or signed
+                marks = tuple(m[1].split())
+                kind = typed[2] if typed else "axiom" if "axiom" in marks else "def"
+                members = tuple(x[1] for p in part[1:] for x in [re.match(r"\s+(?:pub )?([^\s(){}:=]+)(?: \{[^}]*\})? :(?=\s|$)", p)] if typed and x)
+                text = whole(part, by)
+                found.append(Declaration(typed[3] if typed else signed[2], kind, marks, under, text[len(m[1]):], text, at, members))
+                current = len(found) - 1
+            elif current is None:
+                raise SyntaxError(f"{path}:{at + 1}: what is this: {line[:60]}")
+            else:
+                c = found[current]
+                found[current] = dataclasses.replace(c, text=c.text + "\n" + whole(part, by))
+            at = end
+
+    block(0, len(lines), ())
+    return found
+
+
+def declared(path):
+    """By name."""
+    return {d.name: d for d in declarations(path)}
+
+
+@functools.cache
+def uses(path):
+    """What the `use` lines of an antt file bring: a name, and the module and the name there that it stands for (no name for a module)."""
+    found, code = {}, antt_code(read(path))
+    lines = list(re.finditer(r"^ *(?:(?:unfoldable|pub) )*use (?:package\.)?([^\s{]+?)(?:\.\{([^}]*)\})?(?: as (\S+))? *$", code, re.M))
+    if len(lines) != len(re.findall(r"^ *(?:(?:unfoldable|pub) )*use\b", code, re.M)):
+        raise SyntaxError(f"{path}: a use line that is not understood")
+    for m in lines:
+        if m[2] is None:
+            found[m[3] or m[1].split(".")[-1]] = (m[1], "")
+        for leaf in (m[2] or "").split(","):
+            leaf = leaf.strip()
+            if leaf:
+                name, _, new = leaf.partition(" as ")
+                below, _, own = name.rpartition(".")
+                found[(new or own).strip()] = (m[1] + ("." + below if below else ""), own.strip())
+    return found
+
+
+@functools.cache
+def modules(crate, kind):
+    """The antt files that are part of a crate, by their modules' names below `specs` or `proofs` (Lib.antt: the empty name): those that `mod` lines
+    lead to from Lib.antt, and in proofs/ from the file of a Rattle module and from the Proof.antt of a function."""
+    base = f"crates/{crate}/{kind}"
+    roots = {"": f"{base}/Lib.antt"}
+    if kind == "proofs":
+        for file, (_, source) in sources(crate).items():
+            below = [m for m, _ in source.modules]
+            roots.update({".".join(m): f"{base}/{'/'.join(m)}.antt" for m in below})
+            for f in source.found:
+                if f.kind == "fn":
+                    roots[f.path.replace("::", ".") + ".Proof"] = f"{base}/{f.path.replace('::', '/')}/Proof.antt"
+        # a cycle of calls stands under the names of its functions, as +even+odd
+        names = {f.path.split("::")[-1] for f in functions(crate)}
+        for file in files_below(base, "/Proof.antt"):
+            at = file[len(base) + 1:-5]
+            if at.split("/")[-2].startswith("+") and set(at.split("/")[-2].split("+")[1:]) <= names:
+                roots[at.replace("/", ".")] = file
+    found, todo = {}, [(m, f) for m, f in roots.items() if exists(f)]
+    while todo:
+        module, file = todo.pop(0)
+        if module in found:
+            continue
+        found[module] = file
+        folder = base if not module else f"{base}/{module.replace('.', '/')}"
+        for m in re.finditer(r"^\s*(?:pub )?mod (\S+)\s*$", antt_code(read(file)), re.M):
+            name, place = (module + "." if module else "") + m[1], f"{folder}/{m[1]}.antt"
+            if not exists(place):
+                raise SyntaxError(f"{file}: mod {m[1]}: there is no {place}")
+            todo.append((name, place))
+    return found
+
+
+def module_of(name):
+    """A module's name in a `use` line, as (crate, specs or proofs, module below it); None of a module outside of the tree."""
+    m = re.fullmatch(r"Rattle·(\w+?)(?:·(?:specs|proofs))?\.(specs|proofs)(?:\.(.*))?", name)
+    return (m[1], m[2], m[3] or "") if m and m[1] in dependencies() else None
+
+
+def lookup(name):
+    """`crate.specs.File.name` or `crate.proofs.File.name`: its declaration, in a file that is part of the crate; None where there is none. A field and
+    a constructor are found by their own names."""
+    m = re.fullmatch(r"(\w+)\.(specs|proofs)\.(?:(.+)\.)?([^\s.]+)", name)
+    if not m or m[1] not in dependencies():
+        return None
+    file = modules(m[1], m[2]).get(m[3] or "")
+    if not file:
+        return None
+    own = declared(file).get(m[4])
+    return own or next((d for d in declarations(file) if m[4] in d.members), None)
