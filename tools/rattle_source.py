@@ -326,7 +326,7 @@ def declarations(path):
     """The declarations of an antt file, in its order."""
     lines, found = [x.rstrip() for x in antt_code(read(path)).split("\n")], []
     depth = lambda x: len(x) - len(x.lstrip())
-    whole = lambda part, by: "\n".join(x[by:] for x in part).rstrip()
+    whole = lambda part, by: "\n".join(x[by:] for x in part if x)
 
     def block(first, last, under):
         at, current = first, None
@@ -375,12 +375,18 @@ def declared(path):
     return {d.name: d for d in declarations(path)}
 
 
+USE = r"use (?:package\.)?([^\s{;]+?)(?:\.\{([^}]*)\})?(?: as ([^\s;]+))? *"
+
+
 @functools.cache
 def uses(path):
-    """What the `use` lines of an antt file bring: a name, and the module and the name there that it stands for (no name for a module)."""
-    found, code = {}, antt_code(read(path))
-    lines = list(re.finditer(r"^ *(?:(?:unfoldable|pub) )*use (?:package\.)?([^\s{]+?)(?:\.\{([^}]*)\})?(?: as (\S+))? *$", code, re.M))
-    if len(lines) != len(re.findall(r"^ *(?:(?:unfoldable|pub) )*use\b", code, re.M)):
+    """What the `use` lines of an antt file (the `ghost use` lines of a Rattle file) bring: a name, and the module and the name there that it stands
+    for (no name for a module)."""
+    rattle = path.endswith(".rt")
+    code = (rattle_code if rattle else antt_code)(read(path))
+    begin = r"^ *ghost " if rattle else r"^ *(?:(?:unfoldable|pub) )*"
+    found, lines = {}, list(re.finditer(begin + USE + (";" if rattle else "$"), code, re.M))
+    if len(lines) != len(re.findall(begin + r"use\b", code, re.M)):
         raise SyntaxError(f"{path}: a use line that is not understood")
     for m in lines:
         if m[2] is None:
@@ -426,6 +432,27 @@ def modules(crate, kind):
                 raise SyntaxError(f"{file}: mod {m[1]}: there is no {place}")
             todo.append((name, place))
     return found
+
+
+def shown(text, code):
+    """A text without its comments, as a reader wants it: a line that was all comment is gone, one blank line stays of several."""
+    kept = [c.rstrip() for line, c in zip(text.split("\n"), code(text).split("\n")) if c.strip() or not line.strip()]
+    return re.sub(r"\n{3,}", "\n\n", "\n".join(kept)).strip("\n")
+
+
+def words(text):
+    """The names that stand in an antt text, as far as one can see without reading its grammar; of a name behind a dot, its first part too."""
+    found = set()
+    for token in re.split(r"[\s(){}\[\];,]+", text):
+        token = token.rstrip(".")
+        found |= {token, token.split(".")[0]}
+    return found - {""}
+
+
+def mentions(name, among):
+    """Whether a name stands among some words: an operator by its parts."""
+    parts = [name] if name.startswith("«") else [p for p in name.split("_") if p]
+    return name in among or all(p in among for p in parts)
 
 
 def module_of(name):
