@@ -64,19 +64,28 @@ def reached(starts):
     return {f.name for f in found}
 
 
-C_FUNCTION = re.compile(r"^\w[^\n;{}]*?\b(\w+)\([^;{}]*?\)\s*\{\n(.*?)^\}", re.M | re.S)
+C_FUNCTION = re.compile(r"^(\w[^\n;{}]*?)\b(\w+)\([^;{}]*?\)\s*\{\n(.*?)^\}", re.M | re.S)
 
 
 def c_names(file):
     """The calls of the library that a C file makes, by itself or through functions of the files beside it."""
     clean = lambda f: re.sub(r"/\*.*?\*/|//[^\n]*", " ", source.read(f), flags=re.S)
-    bodies = {m[1]: m[2] for f in source.files_below(os.path.dirname(file), ".c") if f != file for m in C_FUNCTION.finditer(clean(f))}
-    names, todo, seen = set(), [clean(file)], set()
+    own, shared = {}, {}
+    for f in source.files_below(os.path.dirname(file), ".c"):
+        for kind, name, body in C_FUNCTION.findall(clean(f)):
+            own[f, name] = (f, body)
+            if not re.search(r"\bstatic\b", kind):
+                shared[name] = (f, body)
+    names, todo, seen = set(), [(file, clean(file))], set()
     while todo:
-        words = set(re.findall(r"\b(\w+)\s*\(", todo.pop()))
-        names |= {w for w in words if w.startswith("brothladder_")}
-        todo += [bodies[w] for w in words & set(bodies) - seen]
-        seen |= words
+        f, text = todo.pop()
+        for word in sorted(set(re.findall(r"\b(\w+)\s*\(", text))):
+            if word.startswith("brothladder_"):
+                names.add(word)
+            home = own.get((f, word)) or shared.get(word)
+            if home and (home[0], word) not in seen:
+                seen.add((home[0], word))
+                todo.append(home)
     return names
 
 

@@ -162,7 +162,7 @@ class Source:
                 at += 1
                 continue
             attributes = []
-            while self.bare[at] == "#":
+            while self.bare[at:at + 1] == "#":
                 to = self.close(self.bare.index("[", at))
                 attributes.append(self.code[at:to])
                 at = to + len(self.bare[to:]) - len(self.bare[to:].lstrip())
@@ -180,6 +180,8 @@ class Source:
             public = "pub" in marks
             word = re.compile(r"(\w+)\s*(?:<[^>{(]*>\s*)?(\w*)").match(self.bare, at)
             keyword, name = (word[1], word[2]) if word else ("", "")
+            if any(re.match(r"#!?\[\s*(path|cfg)", a) for a in attributes):
+                self.fail(start, f"{attributes[0]} is not understood")
             if keyword == "fn":
                 at = self.function(at, start, prefix + name, public, attributes, "extern" in marks)
             elif keyword == "mod":
@@ -229,7 +231,10 @@ class Source:
             word = re.search(rf"\b({'|'.join(CLAUSES)})(\s+\w+)?\s*$", self.bare[start:to])
             if word:
                 clauses.append(word[1])
-                to = self.close(to)
+                end = self.close(to)
+                # what a clause says is antt, with antt's comments
+                self.code = self.code[:to] + antt_code(self.code[to:end]) + self.code[end:]
+                to = end
                 continue
             end = self.close(to)
             self.add("fn", path, public, start, end, attributes, extern, to, clauses)
