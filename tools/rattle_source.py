@@ -48,6 +48,15 @@ def files_below(folder, ending):
     return sorted(found)
 
 
+def files():
+    """Every file of the tree, but for what is built and what git keeps."""
+    found = []
+    for at, folders, names in os.walk(ROOT):
+        folders[:] = sorted(f for f in folders if f not in ("target", ".git", "__pycache__"))
+        found += [os.path.relpath(f"{at}/{n}", ROOT) for n in sorted(names) if n != ".git"]
+    return found
+
+
 def blank(text):
     """As many blanks, on as many lines."""
     return re.sub(r"[^\n]", " ", text)
