@@ -32,7 +32,7 @@ def brought(file):
 def called(f):
     """The functions that a function calls."""
     body = source.rattle_code(f.body, texts=False)
-    module = [m for m in source.sources(f.crate)[f.file][0]]
+    module = source.sources(f.crate)[f.file].module
     owner = f.path.split("::")[:-1]
     found = set()
     for m in re.finditer(r"(\.\s*)?((?:\w+\s*::\s*)*)(\w+)\s*(?:::\s*<[^>]*>\s*)?\(", body):

@@ -113,21 +113,29 @@ class Item:
         return "requires" in self.clauses or "ghost" in self.clauses
 
 
-MARKS = re.compile(r'pub\s*\([^)]*\)|(?:pub|unsafe|async|default|extern|const(?=\s+(?:unsafe|extern|fn)\b)|ghost(?=\s+use\b))\b|""|"\s*"')
-CLAUSES = ("ghost", "requires", "ensures")
+MARK = re.compile(r"pub\s*\([^)]*\)|(?:pub|unsafe|extern|ghost(?=\s+use\b)|const(?=\s+(?:unsafe|extern|fn)\b))(?!\w)|(?<=extern)\s*\"[^\"]*\"")
+CLAUSE = re.compile(r"\b(ghost|requires|ensures)(\s+\w+)?\s*$")
 
 
 class Source:
-    """One source file, read item by item."""
+    """One source file, read item by item: `code` is its text without comments, `bare` without quoted texts too, `found` its items, `modules` its modules,
+    each with the module whose folder its file lies in (None of a module within this file)."""
 
-    def __init__(self, crate, file):
-        self.crate, self.file = crate, file
-        self.code = rattle_code(read(file))
-        self.bare = rattle_code(read(file), texts=False)
+    def __init__(self, crate, file, module):
+        self.crate, self.file, self.module = crate, file, module
+        self.code, self.bare = rattle_code(read(file)), rattle_code(read(file), texts=False)
         self.found, self.modules = [], []
+        self.scan(0, len(self.bare), module, "")
 
     def fail(self, at, why):
-        raise SyntaxError(f"{self.file}:{self.bare.count(chr(10), 0, at) + 1}: {why}")
+        raise SyntaxError(f"{self.file}:{self.line(at) + 1}: {why}")
+
+    def line(self, at):
+        return self.bare.count("\n", 0, at)
+
+    def skip(self, at):
+        """The place of the next character that is no blank."""
+        return at + len(self.bare[at:]) - len(self.bare[at:].lstrip())
 
     def close(self, at):
         """The place behind the bracket that closes the one at a place."""
@@ -151,115 +159,96 @@ class Source:
             at = self.close(at) if self.bare[at] in "([{" else at + 1
         self.fail(len(self.bare) - 1, f"no {' or '.join(stops)} follows")
 
-    def add(self, kind, path, public, start, end, attributes, extern=False, body=None, clauses=()):
-        line = lambda at: self.bare.count("\n", 0, at)
-        body = end if body is None else body
-        cut = lambda a, b: "\n".join(x.rstrip() for x in self.code[a:b].rstrip().split("\n"))
-        indent = start - (self.bare.rfind("\n", 0, start) + 1)
-        flush = lambda t: re.sub(rf"\n {{1,{indent}}}", "\n", t) if indent else t
-        self.found.append(Item(self.crate, path, kind, public, self.file, line(start), line(end - 1), flush(cut(start, end)), flush(cut(start, body)),
-                               cut(body, end), tuple(clauses), tuple(attributes), extern))
+    def cut(self, start, end, indent):
+        """A part of the code, moved to the left margin."""
+        lines = [x.rstrip() for x in self.code[start:end].rstrip().split("\n")]
+        return "\n".join(lines[:1] + [re.sub(rf"^ {{0,{indent}}}", "", x) for x in lines[1:]])
 
-    def scan(self, at, end, module, owner=""):
+    def add(self, kind, path, before, start, end, body=None, clauses=()):
+        """An item between two places, `before` it its attributes and marks."""
+        attributes, marks = before
+        indent, body = start - (self.bare.rfind("\n", 0, start) + 1), end if body is None else body
+        self.found.append(Item(self.crate, path, kind, "pub" in marks, self.file, self.line(start), self.line(end - 1), self.cut(start, end, indent),
+                               self.cut(start, body, indent), self.cut(body, end, indent), tuple(clauses), tuple(attributes), "extern" in marks))
+        return end
+
+    def scan(self, at, end, module, owner):
         """The items between two places, which stand in a module, or in the `impl` of an owner."""
-        prefix = "".join(m + "::" for m in module) + owner
         while True:
-            at += len(self.bare[at:end]) - len(self.bare[at:end].lstrip())
+            at = self.skip(at)
             if at >= end:
                 return
-            if self.bare[at] == ";":
-                at += 1
-                continue
-            attributes = []
-            while self.bare[at:at + 1] == "#":
+            attributes, marks = [], []
+            while self.bare[at] == "#":
                 to = self.close(self.bare.index("[", at))
                 attributes.append(self.code[at:to])
-                at = to + len(self.bare[to:]) - len(self.bare[to:].lstrip())
-            start, marks = at, []
-            while True:
-                mark = MARKS.match(self.code, at)
-                # the C of `extern "C"`
-                quoted = re.compile(r'"[^"]*"').match(self.code, at)
-                if quoted and marks and marks[-1] == "extern":
-                    mark = quoted
-                if not mark:
-                    break
-                marks.append(mark[0])
-                at = mark.end() + len(self.bare[mark.end():]) - len(self.bare[mark.end():].lstrip())
-            public = "pub" in marks
-            word = re.compile(r"(\w+)\s*(?:<[^>{(]*>\s*)?(\w*)").match(self.bare, at)
-            keyword, name = (word[1], word[2]) if word else ("", "")
+                at = self.skip(to)
             if any(re.match(r"#!?\[\s*(path|cfg)", a) for a in attributes):
-                self.fail(start, f"{attributes[0]} is not understood")
-            if keyword == "fn":
-                at = self.function(at, start, prefix + name, public, attributes, "extern" in marks)
-            elif keyword == "mod":
-                to = self.until(at, ";{")
-                if self.bare[to] == "{":
-                    at = self.close(to)
-                    self.modules.append((tuple(module) + (name,), None))
-                    self.scan(to + 1, at - 1, [*module, name])
-                else:
-                    self.modules.append((tuple(module) + (name,), tuple(module)))
-                    at = to + 1
-            elif keyword == "impl":
-                to = self.until(at, "{")
-                head = re.sub(r"<[^<>]*>", "", re.sub(r"<[^<>]*>", "", self.bare[at + 4:to]))
-                named = re.split(r"\bfor\b|\bwhere\b", head)
-                owner_name = (named[1] if re.search(r"\bfor\b", head) else named[0]).strip().split("::")[-1]
-                at = self.close(to)
-                self.scan(to + 1, at - 1, module, owner_name + "::")
-            elif keyword in ("use", "const", "static", "type"):
-                to = self.until(at, ";") + 1
-                if keyword != "use":
-                    self.add(keyword, prefix + name, public, start, to, attributes)
-                at = to
-            elif keyword in ("struct", "enum", "union", "trait"):
-                to = self.until(at, ";{")
-                to = to + 1 if self.bare[to] == ";" else self.close(to)
-                self.add(keyword, prefix + name, public, start, to, attributes)
-                at = to
-            elif "extern" in marks and self.bare[at] == "{":
-                to = self.close(at)
-                self.scan(at + 1, to - 1, module)
-                at = to
-            else:
-                self.fail(at, f"what is this: {self.bare[at:at + 40].split(chr(10))[0]}")
+                self.fail(at, f"{attributes[0]} is not understood")
+            start = at
+            for mark in iter(lambda: MARK.match(self.code, at), None):
+                marks.append(mark[0].strip())
+                # behind `extern` its quoted C is looked for at once
+                at = mark.end() if marks[-1] == "extern" else self.skip(mark.end())
+            at = self.skip(at)
+            at = self.item(at, start, module, owner, (attributes, marks))
 
-    def function(self, at, start, path, public, attributes, extern):
-        """A function from its `fn` on. A brace behind the word of a clause, and its name, is that clause's; any other opens the
-        body."""
-        clauses = []
-        to = self.until(at, "(")
-        to = self.close(to)
+    def item(self, at, start, module, owner, before):
+        """The item whose keyword stands at a place; the place behind it."""
+        word = re.compile(r"(\w*)\s*(\w*)").match(self.bare, at)
+        keyword, path = word[1], "::".join([*module, *([owner] if owner else []), word[2]])
+        if keyword == "fn":
+            return self.function(at, start, path, before)
+        if keyword in ("use", "const", "static", "type"):
+            end = self.until(at, ";") + 1
+            return end if keyword == "use" else self.add(keyword, path, before, start, end)
+        if keyword in ("struct", "enum", "union", "trait"):
+            to = self.until(at, ";{")
+            return self.add(keyword, path, before, start, to + 1 if self.bare[to] == ";" else self.close(to))
+        if keyword == "mod":
+            to = self.until(at, ";{")
+            within = self.bare[to] == "{"
+            self.modules.append((module + (word[2],), None if within else module))
+            if within:
+                self.scan(to + 1, self.close(to) - 1, module + (word[2],), "")
+            return self.close(to) if within else to + 1
+        if keyword == "impl":
+            to = self.until(at, "{")
+            head = self.bare[at + 4:to]
+            while "<" in head and head != re.sub(r"<[^<>]*>", "", head):
+                head = re.sub(r"<[^<>]*>", "", head)
+            of = re.split(r"\bwhere\b", re.split(r"\bfor\b", head)[-1])[0].strip()
+            self.scan(to + 1, self.close(to) - 1, module, of.split("::")[-1])
+            return self.close(to)
+        if self.bare[at] == "{" and "extern" in before[1]:
+            self.scan(at + 1, self.close(at) - 1, module, "")
+            return self.close(at)
+        return self.fail(at, f"what is this: {self.bare[at:].split(chr(10))[0][:60]}")
+
+    def function(self, at, start, path, before):
+        """A function from its `fn` on. A brace behind the word of a clause, and its name, is that clause's; any other opens the body."""
+        clauses, to = [], self.close(self.until(at, "("))
         while True:
             to = self.until(to, ";{")
             if self.bare[to] == ";":
-                self.add("fn", path, public, start, to + 1, attributes, extern, None, clauses)
-                return to + 1
-            word = re.search(rf"\b({'|'.join(CLAUSES)})(\s+\w+)?\s*$", self.bare[start:to])
-            if word:
-                clauses.append(word[1])
-                end = self.close(to)
-                # what a clause says is antt, with antt's comments
-                self.code = self.code[:to] + antt_code(self.code[to:end]) + self.code[end:]
-                to = end
-                continue
-            end = self.close(to)
-            self.add("fn", path, public, start, end, attributes, extern, to, clauses)
-            return end
+                return self.add("fn", path, before, start, to + 1, None, clauses)
+            clause, end = CLAUSE.search(self.bare[start:to]), self.close(to)
+            if not clause:
+                return self.add("fn", path, before, start, end, to, clauses)
+            clauses.append(clause[1])
+            # what a clause says is antt, with antt's comments
+            self.code = self.code[:to] + antt_code(self.code[to:end]) + self.code[end:]
+            to = end
 
 
 @functools.cache
 def sources(crate):
-    """The source files that are part of a crate, each with its module: those that `mod` lines lead to from lib.rt or main.rt."""
+    """The source files that are part of a crate: those that `mod` lines lead to from lib.rt or main.rt."""
     root = next(f for f in (f"crates/{crate}/src/lib.rt", f"crates/{crate}/src/main.rt") if exists(f))
     found, todo = {}, [(root, (), f"crates/{crate}/src")]
     while todo:
         file, module, folder = todo.pop()
-        source = Source(crate, file)
-        source.scan(0, len(source.bare), list(module))
-        found[file] = (module, source)
+        source = found[file] = Source(crate, file, module)
         for child, parent in source.modules:
             if parent is None:
                 continue
@@ -275,7 +264,7 @@ def sources(crate):
 @functools.cache
 def items(crate):
     """Every function, type and constant of a crate, file by file."""
-    return [i for file in sorted(sources(crate)) for i in sources(crate)[file][1].found]
+    return [i for file in sorted(sources(crate)) for i in sources(crate)[file].found]
 
 
 def functions(crate):
@@ -421,7 +410,7 @@ def modules(crate, kind):
     base = f"crates/{crate}/{kind}"
     roots = {"": f"{base}/Lib.antt"}
     if kind == "proofs":
-        for file, (_, source) in sources(crate).items():
+        for source in sources(crate).values():
             below = [m for m, _ in source.modules]
             roots.update({".".join(m): f"{base}/{'/'.join(m)}.antt" for m in below})
             for f in source.found:
