@@ -1,5 +1,5 @@
--- Refusal 3 with its numbers, at the last length of a payload that passes and at the first that does not. Behind a head of eight bytes the checksum
--- leaves as many as the 32 bits of the pseudo-header's length can say, the writer as many as the 16 bits of an IPv6 header's (RFC 8200, sections 8.1 and 3).
+-- Refusal 3 with its numbers, at the last length of a payload that passes and at the first that does not. Head and payload together may be as long as
+-- the pseudo-header's 32 bits can say for the checksum, and as an IPv6 header's 16 bits can say for the writer (RFC 8200, sections 8.1 and 3).
 -- Assumes nothing.
 use Prim.Native.Nat.{ℕ, _+_, _≤_}
 use mathlib.Core.Bool.{cond}
