@@ -4,12 +4,11 @@
 use Prim.Native.Nat.{ℕ, zero, suc, _+_, _≤_}
 use mathlib.Core.Path.{_≡_, refl, subst, sym, _∙_, ap}
 use mathlib.Core.Logic.{_↔_}
-use mathlib.Core.List.{List, [], _∷_, _++_, append-nil}
+use mathlib.Core.List.{List, [], _∷_, append-nil}
 use native.Mathlib.Omega.{arith}
 use lib.ListN.{length, drop}
 use Rattle.paper.specs.Paper.{Paper}
-use Rattle.ndp_walk.specs.Judge.{judge}
-use Rattle.ndp_walk.specs.Walk.{Item, Ending, RefusedAt, Walk, item, then, clean, refused}
+use Rattle.ndp_walk.specs.Walk.{Item, Ending, RefusedAt, Walk, item, then}
 use Rattle.ndp_walk.specs.Step.{handed, told}
 use Rattle.ndp_walk.proofs.Judging.{fitting}
 use Rattle.ndp_walk.proofs.Walking.{Path, past, Stop, over, bad, walked}
@@ -44,17 +43,14 @@ module _ (s : List ℕ) where
       let rest = so-far (step .inside) more in
       (rest .0, step .walk ∙ ap (then (itemTold o ∷ [])) (rest .1))
 
-  only : {is : List Item} {l : Last} → Run s is l → (is ≡ walk s .items) × (l ≡ As (walk s .ending))
-  only r = go r
-    where
-      -- the walk is what was handed out, and ends there
-      is-all : {is : List Item} {w : Walk} → w .items ≡ [] → walk s ≡ then is w → (is ≡ walk s .items) × (As (w .ending) ≡ As (walk s .ending))
-      is-all {is} none e = (sym (append-nil is) ∙ ap (λ (l : List Item). is ++ l) (sym none) ∙ sym (ap (λ (x : Walk). x .items) e), sym (ap (λ (x : Walk). As (x .ending)) e))
+  -- where the walk hands out no more, it is what was handed out, and ends there
+  all : {is : List Item} {e : Ending} → walk s ≡ then is (record { items = []; ending = e }) → (is ≡ walk s .items) × (As e ≡ As (walk s .ending))
+  all {is} q = (sym (ap (λ (w : Walk). w .items) q ∙ append-nil is), sym (ap (λ (w : Walk). As (w .ending)) q))
 
-      go : {is : List Item} {l : Last} → Run s is l → (is ≡ walk s .items) × (l ≡ As (walk s .ending))
-      go (ends {is = is} p e) = let h = so-far (omega arith) p in is-all {w = clean} refl (h .1 ∙ ap (then is) (ended-at s _ (h .0) e refl .1))
-      go (refuses {is = is} why next p e) = let h = so-far (omega arith) p in is-all {w = refused _ _} refl (h .1 ∙ ap (then is) (refused-at s _ (h .0) {why = why} {next = next} e refl .1))
-      go (stops p e) = absurd (not-stopped s _ (so-far (omega arith) p .0) e refl)
+  only : {is : List Item} {l : Last} → Run s is l → (is ≡ walk s .items) × (l ≡ As (walk s .ending))
+  only (ends {is = is} p e) = let h = so-far (omega arith) p in all (h .1 ∙ ap (then is) (ended-at s _ (h .0) e refl .1))
+  only (refuses {is = is} why next p e) = let h = so-far (omega arith) p in all (h .1 ∙ ap (then is) (refused-at s _ (h .0) {why = why} {next = next} e refl .1))
+  only (stops p e) = absurd (not-stopped s _ (so-far (omega arith) p .0) e refl)
 
   -- an answer that hands out an option of a kind
   handed-there : {k t len at to : ℕ} {is : List Item} (x : NdpOptionKind) → kindNumber x ≡ k → stepOf s at ≡ handed (item k t at len) (at + len) → Steps s (at + len) is to → Steps s at (item k t at len ∷ is) to
