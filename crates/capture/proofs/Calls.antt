@@ -3,10 +3,10 @@
 use Prim.Native.Nat.{ℕ, _+_, _≤_}
 use mathlib.Core.Path.{_≡_, refl, sym, ap, _∙_}
 use mathlib.Core.Bool.{Bool, true, false, cond}
-use mathlib.Core.List.{List, [], _∷_}
+use mathlib.Core.List.{List, []}
 use native.Mathlib.Omega.{arith}
 use lib.Dec.{ltb}
-use lib.ListN.{length, take, drop, replicate, length-drop}
+use lib.ListN.{length, take, drop, length-drop}
 use lib.Seq.{length-take-le}
 use borrow.Author.Tests.{ltb-false, le-ltb, eqb-false}
 use Rattle.paper.specs.Paper.{Paper, refuses, gives, value}
@@ -24,16 +24,16 @@ use Rattle.capture.proofs.Seen.{Seen, ended, cut, unmarked, long, found
 
 -- an address whose bytes are there is those bytes
 pub address-there : (s : List ℕ) (at : ℕ) → at + 16 ≤ length s → addressAt s at ≡ take 16 (drop at s)
-address-there s at h = over-whole (replicate 16 0) (take 16 (drop at s)) (length-take-le 16 (drop at s) (simp length-drop (omega arith)))
+address-there s at h = over-whole _ (take 16 (drop at s)) (length-take-le 16 (drop at s) (simp length-drop (omega arith)))
 
 -- an answer with no number says so of the bytes from the place on
 pub not-beyond : (s : List ℕ) (at base : ℕ) (p : Paper) → (p .number ≡ 14 → ⊥) → p ≡ nextOf s at base → (at ≤ length s) × (p ≡ placed at (recordOf (drop at s) (placeIn base at)))
 unfolding nextOf
-not-beyond s at base p other e = by (ltb (length s) at) refl e
+not-beyond s at base p other e = by _ (ltb (length s) at) refl e
   where
-    by : (b : Bool) → ltb (length s) at ≡ b → p ≡ cond b (refuses 14 (placeIn base at ∷ [])) (placed at (recordOf (drop at s) (placeIn base at))) → (at ≤ length s) × (p ≡ placed at (recordOf (drop at s) (placeIn base at)))
-    by true t q = absurd (other (ap (λ (x : Paper). x .number) q))
-    by false t q = (ltb-false (length s) at t, q)
+    by : (v : List ℕ) (b : Bool) → ltb (length s) at ≡ b → p ≡ cond b (refuses 14 v) (placed at (recordOf (drop at s) (placeIn base at))) → (at ≤ length s) × (p ≡ placed at (recordOf (drop at s) (placeIn base at)))
+    by v true t q = absurd (other (ap (λ (x : Paper). x .number) q))
+    by v false t q = (ltb-false (length s) at t, q)
 
 module _ (s : List ℕ) (at base : ℕ) where
   pub found-at : {x : Next} {r : Record} → nextPaper x ≡ nextOf s at base → x ≡ Found r → FoundAt s at (placeIn base at) r

@@ -7,3 +7,4 @@ pub mod Laws
 pub mod Whole
 pub mod Back
 pub mod Calls
+pub mod Cases

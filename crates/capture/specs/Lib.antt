@@ -1,3 +1,4 @@
 pub mod Record
 pub mod Paper
 pub mod Capture
+pub mod Cases

@@ -35,25 +35,25 @@ Claim (rewrites option bytes) = bytesOf (informationAt option) ≡ bytes
 Claim (validates source destination packet answer) = verdictOf source destination packet ≡ answer
 Claim (dispatches kind payload answer) = payloadOf kind payload ≡ answer
 
-abbrev zeros : ℕ → List ℕ
+abbrev pub zeros : ℕ → List ℕ
 zeros n = replicate n 0
 
 -- fe80::1 and ff02::2
-abbrev router : List ℕ
+abbrev pub router : List ℕ
 router = 0xfe ∷ 0x80 ∷ (zeros 13 ++ 1 ∷ [])
 
-abbrev everyone : List ℕ
+abbrev pub everyone : List ℕ
 everyone = 0xff ∷ 0x02 ∷ (zeros 13 ++ 2 ∷ [])
 
 -- the first packet of the dump's listing, with a field
-abbrev solicitation : ℕ → ℕ → List ℕ
+abbrev pub solicitation : ℕ → ℕ → List ℕ
 solicitation a b = 0x85 ∷ 0 ∷ a ∷ b ∷ 0 ∷ 0 ∷ 0 ∷ 0 ∷ 1 ∷ 1 ∷ 2 ∷ 0 ∷ 0 ∷ 0 ∷ 0 ∷ 1 ∷ []
 
 abbrev echo : ℕ → ℕ → List ℕ
 echo a b = 0x80 ∷ 0 ∷ a ∷ b ∷ 0x7f ∷ 0xbd ∷ 0 ∷ 0 ∷ []
 
 -- P9's option with these flags
-abbrev option : ℕ → List ℕ
+abbrev pub option : ℕ → List ℕ
 option flags =
     3 ∷ 4 ∷ 0x40 ∷ flags ∷ 0 ∷ 1 ∷ 0x51 ∷ 0x80 ∷ 0 ∷ 0 ∷ 0x38 ∷ 0x40 ∷ (zeros 4 ++ (0x20 ∷ 1 ∷ 0x0d ∷ 0xb8 ∷ zeros 12))
 

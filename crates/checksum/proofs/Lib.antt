@@ -7,3 +7,4 @@ pub mod Passing
 pub mod Validity
 pub mod Cases
 pub mod Unique
+pub mod Limit

@@ -41,19 +41,27 @@ fn walk_all(options: &[u8], wanted: NdpOptionType) -> Tally
     let mut c = Cursor::new();
     let mut n: usize = 0;
     let mut found = false;
+    let mut last = wanted;
     loop {
         let at = c.at;
         match c.step(options) {
             Step::Handed(option, next) => {
-                let id = option.option_type;
+                last = option.option_type;
                 n += 1;
-                found = found_by(found, id, wanted);
+                found = found_by(found, last, wanted);
                 c = next;
             }
             Step::End => return Tally::All(n, found),
             Step::Refused(why, _) => return Tally::Refused(why, at),
-            // Never: a cursor that a step hands on is within the bytes. No number of options is right for a stopped walk, so none is told.
-            Step::Stopped => return Tally::Refused(Refusal::ZeroLength { id: wanted }, at),
+            // Never: a cursor that a step hands on is within the bytes. Were it beyond them, the last option would end there and lack bytes.
+            Step::Stopped => {
+                let lacks = Refusal::UnexpectedEndOfSlice {
+                    id: last,
+                    expected: at,
+                    actual: options.len(),
+                };
+                return Tally::Refused(lacks, at);
+            }
         }
     }
 }

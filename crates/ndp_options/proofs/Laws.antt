@@ -3,7 +3,7 @@
 -- Assumes nothing.
 use Prim.Native.Nat.{ℕ, _+_, _/_, _≤_, _<_}
 use mathlib.Core.Path.{_≡_, _∙_, ap}
-use mathlib.Core.Logic.{_⊎_}
+use mathlib.Core.Logic.{_⊎_, _↔_}
 use mathlib.Core.Bool.{true, false}
 use mathlib.Core.List.{List, [], _++_, map}
 use native.Mathlib.Omega.{arith}
@@ -56,8 +56,8 @@ module _ (s : List ℕ) where
   refusals e = five-to-seven s e
 
   -- missing bytes are refusal 7 of any type and the refusal 5 of a one-byte remainder, and nothing else
-  pub missing-bytes : {at : ℕ} {why : Paper} → walk s .ending ≡ RefusedAt at why → missing why ≡ true → (why .number ≡ 7) ⊎ ((why .number ≡ 5) × (at + 1 ≡ length s))
-  missing-bytes e m = missing-means s e m
+  pub missing-bytes : {at : ℕ} {why : Paper} → walk s .ending ≡ RefusedAt at why → missing why ≡ true ↔ ((why .number ≡ 7) ⊎ ((why .number ≡ 5) × (at + 1 ≡ length s)))
+  missing-bytes e = missing-means s e
 
 -- whole options, one after the other, are walked clean: a walker that always refuses is shut out
 pub options-clean : (os : List (List ℕ)) → Each (Whole rule) os → walk (concat os) ≡ record { items = placed rule 0 os; ending = Clean }

@@ -9,7 +9,8 @@ use native.Mathlib.Omega.{arith}
 use lib.Dec.{eqb, lit≤}
 use lib.ListN.{length, getD, take}
 use lib.Seq.{length-take-le, getD-take}
-use borrow.Author.Tests.{eq-eqb, ne-eqb}
+use native.Mathlib.Decide.{decLe}
+use borrow.Author.Tests.{eq-eqb, ne-eqb, lt-ltb, le-ltb}
 use Rattle.paper.specs.Paper.{Paper, refuses}
 use Rattle.ndp_option_header.specs.Header.{bytesOf}
 use Rattle.ndp_option_header.specs.declared.NdpOptionHeader.{NdpOptionHeader}
@@ -27,6 +28,21 @@ misfits o why e = go (eqb (length o) (askedOf (getD o 0 0) (length o))) e
     go : (b : Bool) → cond b (Fits (kindOf (getD o 0 0))) (Misfits (refuses 5 (getD o 0 0 ∷ askedOf (getD o 0 0) (length o) ∷ length o ∷ []))) ≡ Misfits why → refuses 5 (getD o 0 0 ∷ askedOf (getD o 0 0) (length o) ∷ length o ∷ []) ≡ why
     go true e = cc
     go false e = cc
+
+-- its kinds are 0 to 5
+pub fits : (o : List ℕ) (k : ℕ) → rule o ≡ Fits k → k ≤ 5
+unfolding rule
+fits o k e = go (eqb (length o) (askedOf (getD o 0 0) (length o))) e
+  where
+    few : (type : ℕ) → kindOf type ≤ 5
+    few type = elim (decLe type 5) [
+      | yes h ↦ simp (le-ltb 5 type h) h
+      | no h ↦ simp (lt-ltb 5 type (omega arith)) (lit≤ tt)
+    ]
+
+    go : (b : Bool) → cond b (Fits (kindOf (getD o 0 0))) (Misfits (refuses 5 (getD o 0 0 ∷ askedOf (getD o 0 0) (length o) ∷ length o ∷ []))) ≡ Fits k → k ≤ 5
+    go true e = let same : kindOf (getD o 0 0) ≡ k = cc in rw (← same) (few (getD o 0 0))
+    go false e = absurd (let z : _≡_ {A = ℕ} 0 1 = cc in omega arith)
 
 pub numbered : Numbered rule
 numbered o why e = rw (← misfits o why e) (lit≤ tt)

@@ -1,3 +1,4 @@
 pub mod Rule
 pub mod Walk
 pub mod Told
+pub mod Run

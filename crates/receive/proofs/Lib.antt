@@ -5,5 +5,6 @@ pub mod Options
 pub mod Theorems
 pub mod Witnesses
 pub mod Whole
+pub mod NotWhole
 pub mod Paper
 pub mod Unique

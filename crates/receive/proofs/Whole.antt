@@ -13,18 +13,20 @@ use Rattle.message_table.specs.Table.{isNdp}
 use Rattle.packet_length.proofs.Laws.{sized-fits}
 use Rattle.icmpv6_type.proofs.Laws.{as-known}
 use Rattle.icmpv6.specs.Head.{decodeOf, fieldsAt}
-use Rattle.ndp_walk.specs.Walk.{Ending, Clean, RefusedAt, Walk}
+use Rattle.ndp_walk.specs.Walk.{Item, Ending, Clean, RefusedAt, Walk}
 use Rattle.ndp_options.specs.Walk.{walk, walkFrom, stepOf}
 use Rattle.ndp_options.specs.Told.{stepTold}
+use Rattle.ndp_options.specs.Run.{Steps, As}
 use Rattle.ndp_options.specs.declared.Step.{Step}
 use Rattle.ndp_options.specs.declared.Step.the-variants.{Handed, End, Refused, Stopped}
-use Rattle.ndp_options.proofs.Steps.{handed-on, refused-at, not-stopped}
+use Rattle.ndp_options.proofs.Steps.{refused-at, not-stopped}
+use Rattle.ndp_options.proofs.Run.{so-far, stepped}
 use Rattle.ndp_options.proofs.Laws.{all-bytes}
 use Rattle.receive.specs.declared.Received.{Received}
 use Rattle.receive.specs.declared.Received.the-variants.{Accepted}
 use Rattle.receive.specs.Receive.{isClean, optionReasons, reasons, receiveOf}
 use Rattle.receive.specs.Told.{told}
-use Rattle.receive.specs.Whole.{Reached, start, on, isWhole, optionsFrom, Whole}
+use Rattle.receive.specs.Whole.{isWhole, optionsFrom, Whole}
 use Rattle.icmpv6_payload_slice.specs.declared.Icmpv6PayloadSlice.{Icmpv6PayloadSlice}
 use Rattle.icmpv6_payload_slice.specs.declared.PayloadRead.the-variants.{Payload}
 use Rattle.icmpv6_payload_slice.specs.Dispatch.{optionsAt, kindAt}
@@ -36,26 +38,15 @@ is-clean : (e : Ending) → isClean e ≡ true → e ≡ Clean
 is-clean Clean h = refl
 is-clean (RefusedAt at why) h = absurd (false≢true h)
 
-module _ (s : List ℕ) where
-  -- the walk from a place that was reached ends as the whole walk does
-  ends-alike : {at : ℕ} → Reached s at → (at ≤ length s) × (walkFrom at (drop at s) .ending ≡ walk s .ending)
-  ends-alike start = (omega arith, refl)
-  ends-alike (on {at} r e arm) =
-      let h = ends-alike r in
-      let o = handed-on s at (h .0) e arm in
-      (o .inside, ap (λ (w : Walk). w .ending) (sym (o .walk)) ∙ h .1)
-
-  whole-steps : walk s .ending ≡ Clean → (at : ℕ) → Reached s at → (x : Step) → stepTold x ≡ stepOf s at → isWhole x ≡ true
-  whole-steps clean at r x e = by x refl
-    where
-      by : (y : Step) → x ≡ y → isWhole y ≡ true
-      by (Handed o next) arm = refl
-      by End arm = refl
-      by (Refused why next) arm =
-          let h = ends-alike r in
-          let z = sym (ap (λ (w : Walk). w .ending) (refused-at s at (h .0) e arm .1)) ∙ h .1 ∙ clean in
-          absurd (false≢true (ap isClean z))
-      by Stopped arm = absurd (not-stopped s at (ends-alike r .0) e arm)
+-- a walk that is clean is clean from every place that one comes to
+whole-steps : (s : List ℕ) → walk s .ending ≡ Clean → (is : List Item) (at : ℕ) → Steps s 0 is at → (x : Step) → stepTold x ≡ stepOf s at → isWhole x ≡ true
+whole-steps s clean is at p x e = let h = so-far s (omega arith) p in by (h .0) (sym (ap (λ (w : Walk). w .ending) (h .1)) ∙ clean) x refl
+  where
+    by : at ≤ length s → walkFrom at (drop at s) .ending ≡ Clean → (y : Step) → x ≡ y → isWhole y ≡ true
+    by h c (Handed o next) arm = refl
+    by h c End arm = refl
+    by h c (Refused why next) arm = absurd (false≢true (ap isClean (sym (ap (λ (w : Walk). w .ending) (refused-at s at h e arm .1)) ∙ c)))
+    by h c Stopped arm = absurd (not-stopped s at h e arm)
 
 -- what is handed on of an accepted packet is what the dispatch says of it
 pub accepted-opened : (hops : ℕ) (source destination packet : List ℕ) (r : Received) {m : Icmpv6PayloadSlice}
@@ -95,4 +86,5 @@ accepted-whole hops source destination packet r {m} e a n =
       clean = clean;
       all = all-bytes _ clean;
       steps = whole-steps _ clean;
+      run = λ is l r. let h = stepped _ is l .0 r in (h .0, h .1 ∙ ap As clean);
     }

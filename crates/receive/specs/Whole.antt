@@ -9,21 +9,15 @@ use Rattle.paper.specs.Paper.{gives}
 use Rattle.message_table.specs.Table.{fixedLen}
 use Rattle.icmpv6_type.specs.Value.{fieldsOf}
 use Rattle.icmpv6.specs.Head.{decodeOf, checksumAt, fieldsAt}
-use Rattle.ndp_walk.specs.Walk.{Clean}
+use Rattle.ndp_walk.specs.Walk.{Item, Clean}
 use Rattle.ndp_walk.specs.Laws.{bytesIn, concat}
 use Rattle.ndp_options.specs.Walk.{walk, stepOf}
 use Rattle.ndp_options.specs.Told.{stepTold}
-use Rattle.ndp_options.specs.declared.NdpOption.{NdpOption}
-use Rattle.ndp_options.specs.declared.Cursor.{Cursor}
+use Rattle.ndp_options.specs.Run.{Steps, Last, As, Run}
 use Rattle.ndp_options.specs.declared.Step.{Step}
 use Rattle.ndp_options.specs.declared.Step.the-variants.{Handed, End, Refused, Stopped}
 use Rattle.icmpv6_payload_slice.specs.declared.Icmpv6PayloadSlice.{Icmpv6PayloadSlice}
 use Rattle.icmpv6_payload_slice.specs.Dispatch.{kindNumber}
-
--- a place that one comes to by steps from the first option byte on
-pub data Reached (options : List ℕ) : ℕ → Type 0 where
-  start : Reached options 0
-  on : {at : ℕ} {x : Step} {o : NdpOption} {next : Cursor} → Reached options at → stepTold x ≡ stepOf options at → x ≡ Handed o next → Reached options (next .at)
 
 -- an option, or the end; no refusal, and no walk that was stopped
 abbrev pub isWhole : Step → Bool
@@ -48,5 +42,7 @@ pub record Whole (packet : List ℕ) (message : Icmpv6PayloadSlice) : Type 0 whe
   pub clean : walk (optionsFrom message packet) .ending ≡ Clean
   -- and their bytes, one after the other, are all that is behind the fixed part
   pub all : concat (map (bytesIn (optionsFrom message packet)) (walk (optionsFrom message packet) .items)) ≡ optionsFrom message packet
-  -- whoever steps through them is handed an option or told the end at every place
-  pub steps : (at : ℕ) → Reached (optionsFrom message packet) at → (x : Step) → stepTold x ≡ stepOf (optionsFrom message packet) at → isWhole x ≡ true
+  -- whoever steps through them is handed an option or told the end at every place that he comes to
+  pub steps : (is : List Item) (at : ℕ) → Steps (optionsFrom message packet) 0 is at → (x : Step) → stepTold x ≡ stepOf (optionsFrom message packet) at → isWhole x ≡ true
+  -- and whoever goes on until a step hands out no option has been handed them all, and is told the end
+  pub run : (is : List Item) (l : Last) → Run (optionsFrom message packet) is l → (is ≡ walk (optionsFrom message packet) .items) × (l ≡ As Clean)

@@ -38,11 +38,11 @@ over true = refl
 over false = refl
 
 abbrev Inv-loop : tie.InvT-loop
-Inv-loop options wanted c₀ n₀ found₀ c n found =
+Inv-loop options wanted c₀ n₀ found₀ last₀ c n found last =
     (c .at ≤ length options) × (n ≤ c .at) × (tallyOf (wanted .0) options ≡ more (wanted .0) n found (walkFrom (c .at) (drop (c .at) options)))
 
 abbrev μ-loop : tie.MeasureT-loop
-μ-loop options wanted c₀ n₀ found₀ c n found = length options - c .at
+μ-loop options wanted c₀ n₀ found₀ last₀ c n found last = length options - c .at
 
 -- the turn that hands out an option
 onward : (c : tie.After-option Inv-loop μ-loop) → Onward rule (c .before .before .before .before .before .before .args .options .now) (c .before .before .before .loop .c .at) (itemTold (c .option .given .0 .0)) (c .option .given .0 .1 .0 .at)

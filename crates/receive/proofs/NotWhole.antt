@@ -1,0 +1,27 @@
+-- Two answers that are not whole, at the list `01 00`: the refusal at its first byte, and the stopped step at the place that the refusal hands on. Whatever
+-- answer meets the promise of `Cursor::step` there is that one, since what is told of an answer loses nothing.
+-- Assumes nothing.
+use Prim.Native.Nat.{ℕ}
+use mathlib.Core.Path.{_≡_, refl, ap, _∙_}
+use mathlib.Core.Bool.{false}
+use mathlib.Core.List.{List, [], _∷_}
+use Rattle.ndp_walk.specs.Judge.{judge}
+use Rattle.ndp_walk.specs.Step.{stepBy}
+use Rattle.ndp_options.specs.Walk.{stepOf}
+use Rattle.ndp_options.specs.Told.{stepTold}
+use Rattle.ndp_options.specs.declared.Step.{Step}
+use Rattle.ndp_options.specs.declared.Step.the-variants.{Refused, Stopped}
+use Rattle.ndp_options.proofs.Told.{step-lossless}
+use Rattle.refusal.specs.declared.Refusal.the-variants.{ZeroLength}
+use Rattle.receive.specs.Whole.{isWhole}
+
+abbrev list : List ℕ
+list = 1 ∷ 0 ∷ []
+
+pub refused-not-whole : (x : Step) → stepTold x ≡ stepOf list 0 → isWhole x ≡ false
+unfolding stepBy judge
+refused-not-whole x e = ap isWhole (step-lossless x (Refused (ZeroLength (record { 0 = 1 })) (record { at = 3 })) (e ∙ refl))
+
+pub stopped-not-whole : (x : Step) → stepTold x ≡ stepOf list 3 → isWhole x ≡ false
+unfolding stepBy
+stopped-not-whole x e = ap isWhole (step-lossless x Stopped (e ∙ refl))
