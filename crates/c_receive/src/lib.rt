@@ -1,0 +1,63 @@
+// The receive check, and where the options of a packet that passed it are.
+ghost use mathlib.Core.Path.{_≡_};
+ghost use Rattle.receive.specs.Receive.{receiveOf};
+ghost use Rattle.c_receive.specs.Received.{Sound, optionsAt, receivedFor};
+use message_table::fixed_len;
+use message_table::is_ndp;
+use receive::receive_check;
+
+#[repr(C)]
+pub struct Received {
+    pub answer: u32,
+    pub refusal: u32,
+    pub value: [u64; 4],
+    pub options_at: usize,
+    pub options_length: usize,
+}
+
+// Behind the fixed part of a message of Neighbor Discovery; at the end of another, which has no options.
+fn options_at(packet: &[u8]) -> usize
+    requires { ⌜ Sound (now packet) ⌝ }
+    ensures { λ r. ⌜ r ≡ optionsAt (now (packet .entry)) ⌝ }
+{
+    let kind = packet[0];
+    if is_ndp(kind) {
+        8 + fixed_len(kind)
+    } else {
+        packet.len()
+    }
+}
+
+#[no_mangle]
+pub extern "C" fn brothladder_receive(
+    packet: &[u8],
+    hop_limit: u8,
+    source: &[u8; 16],
+    destination: &[u8; 16],
+) -> Received
+    ensures { λ r. ⌜ r ≡ receivedFor (now (packet .entry)) (receiveOf «hop_limit» (now (source .entry)) (now (destination .entry)) (now (packet .entry))) ⌝ }
+{
+    match receive_check(packet, hop_limit, source, destination) {
+        receive::Received::Accepted => {
+            let at = options_at(packet);
+            Received {
+                answer: c_answer::RECEIVED,
+                refusal: 0,
+                value: [0, 0, 0, 0],
+                options_at: at,
+                options_length: packet.len() - at,
+            }
+        }
+        receive::Received::Refused(why) => {
+            let n = why.numbers();
+            let value = n.values;
+            Received {
+                answer: c_answer::REFUSED,
+                refusal: n.number as u32,
+                value,
+                options_at: 0,
+                options_length: 0,
+            }
+        }
+    }
+}
