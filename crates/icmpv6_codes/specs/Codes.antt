@@ -31,9 +31,15 @@ destNumber Port = 4
 destNumber SourceAddressFailedPolicy = 5
 destNumber RejectRoute = 6
 
--- the code of a listed number
+-- the code of a number that is listed; of another, the last
 abbrev pub destOf : ℕ → DestUnreachableCode
-destOf n = cond (eqb n 0) NoRoute (cond (eqb n 1) Prohibited (cond (eqb n 2) BeyondScope (cond (eqb n 3) Address (cond (eqb n 4) Port (cond (eqb n 5) SourceAddressFailedPolicy (RejectRoute))))))
+destOf n =
+    cond (eqb n 0) NoRoute
+    (cond (eqb n 1) Prohibited
+    (cond (eqb n 2) BeyondScope
+    (cond (eqb n 3) Address
+    (cond (eqb n 4) Port
+    (cond (eqb n 5) SourceAddressFailedPolicy RejectRoute)))))
 
 abbrev pub destTold : DestUnreachableListing → Paper
 destTold (dest.Listed c) = gives (destNumber c ∷ [])
@@ -44,7 +50,7 @@ timeNumber HopLimitExceeded = 0
 timeNumber FragmentReassemblyTimeExceeded = 1
 
 abbrev pub timeOf : ℕ → TimeExceededCode
-timeOf n = cond (eqb n 0) HopLimitExceeded (FragmentReassemblyTimeExceeded)
+timeOf n = cond (eqb n 0) HopLimitExceeded FragmentReassemblyTimeExceeded
 
 abbrev pub timeTold : TimeExceededListing → Paper
 timeTold (time.Listed c) = gives (timeNumber c ∷ [])
@@ -64,7 +70,17 @@ problemNumber TooManyOptionsInExtensionHeader = 9
 problemNumber OptionTooBig = 10
 
 abbrev pub problemOf : ℕ → ParameterProblemCode
-problemOf n = cond (eqb n 0) ErroneousHeaderField (cond (eqb n 1) UnrecognizedNextHeader (cond (eqb n 2) UnrecognizedIpv6Option (cond (eqb n 3) FirstFragmentIncompleteHeaderChain (cond (eqb n 4) SrUpperLayerHeaderError (cond (eqb n 5) UnrecognizedNextHeaderByIntermediateNode (cond (eqb n 6) ExtensionHeaderTooBig (cond (eqb n 7) ExtensionHeaderChainTooLong (cond (eqb n 8) TooManyExtensionHeaders (cond (eqb n 9) TooManyOptionsInExtensionHeader (OptionTooBig))))))))))
+problemOf n =
+    cond (eqb n 0) ErroneousHeaderField
+    (cond (eqb n 1) UnrecognizedNextHeader
+    (cond (eqb n 2) UnrecognizedIpv6Option
+    (cond (eqb n 3) FirstFragmentIncompleteHeaderChain
+    (cond (eqb n 4) SrUpperLayerHeaderError
+    (cond (eqb n 5) UnrecognizedNextHeaderByIntermediateNode
+    (cond (eqb n 6) ExtensionHeaderTooBig
+    (cond (eqb n 7) ExtensionHeaderChainTooLong
+    (cond (eqb n 8) TooManyExtensionHeaders
+    (cond (eqb n 9) TooManyOptionsInExtensionHeader OptionTooBig)))))))))
 
 abbrev pub problemTold : ParameterProblemListing → Paper
 problemTold (problem.Listed c) = gives (problemNumber c ∷ [])

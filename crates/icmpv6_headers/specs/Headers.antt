@@ -40,7 +40,13 @@ abbrev pub echoFrom : List ℕ → IcmpEchoHeader
 echoFrom l = record { id = getD l 0 0; seq = getD l 1 0 }
 
 abbrev pub routerFrom : List ℕ → RouterAdvertisementHeader
-routerFrom l = record { «cur_hop_limit» = getD l 0 0; «managed_address_config» = eqb (getD l 1 0) 1; «other_config» = eqb (getD l 2 0) 1; «router_lifetime» = getD l 3 0 }
+routerFrom l =
+    record {
+      «cur_hop_limit» = getD l 0 0;
+      «managed_address_config» = eqb (getD l 1 0) 1;
+      «other_config» = eqb (getD l 2 0) 1;
+      «router_lifetime» = getD l 3 0;
+    }
 
 abbrev pub neighborFrom : List ℕ → NeighborAdvertisementHeader
 neighborFrom l = record { router = eqb (getD l 0 0) 1; solicited = eqb (getD l 1 0) 1; «override_flag» = eqb (getD l 2 0) 1 }
