@@ -37,7 +37,8 @@ for line in open("library.dis"):
         code[section] = []
     elif section is not None and (m := re.match(r"\s+([0-9a-f]+):\s+(.*)", line)):
         code[section].append((int(m.group(1), 16), m.group(2)))
-sizes = {m.group(1): int(m.group(2), 16) for m in re.finditer(r"\.text\.(\S+)\s+PROGBITS\s+\S+\s+\S+\s+(\w+)", open("library.elf").read())}
+sections = [(m.group(1), int(m.group(2), 16)) for m in re.finditer(r"\.text\.(\S+)\s+PROGBITS\s+\S+\s+\S+\s+(\w+)", open("library.elf").read())]
+sizes = dict(sections)
 tables = sum(int(m.group(1), 16) for m in re.finditer(r"\.rodata\S*\s+PROGBITS\s+\S+\s+\S+\s+(\w+)", open("library.elf").read()))
 uses = {}
 for f, lines in code.items():
@@ -70,7 +71,7 @@ def reached(f):
     return frozenset({f}).union(*[reached(g) for g in uses[f]])
 
 
-whole = sum(sizes.values())
+whole = sum(size for _, size in sections)  # what two objects share stands in both
 size_rows = ["| call | its own code | with all that it calls | stack |", "|---|---|---|---|"]
 exported = ["brothladder_" + c for c in CALLS if "brothladder_" + c in sizes]
 for f in exported:

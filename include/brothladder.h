@@ -95,7 +95,7 @@ extern "C" {
 #define BROTHLADDER_REASON_LENGTH 4u        /* the fixed part is not all there */
 #define BROTHLADDER_REASON_OPTIONS 5u       /* the walk over the options is refused */
 #define BROTHLADDER_REASON_ADDRESSES 6u     /* source or destination does not go with the message */
-#define BROTHLADDER_REASON_TARGET 7u        /* the target does not */
+#define BROTHLADDER_REASON_TARGET 7u        /* the target does not, or the destination field of a redirect is multicast */
 #define BROTHLADDER_REASON_SOURCE_OPTION 8u /* a source link-layer address option from the unspecified address */
 
 /* Message types (RFC 4443, RFC 4861). */

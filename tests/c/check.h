@@ -63,6 +63,7 @@ void write_again(const uint8_t *packet, size_t n, const uint8_t *source, const u
 size_t some_options(uint8_t *p);
 size_t damage(uint8_t *p, size_t n);
 
+void fields(void);  /* where each field of a head stands */
 void cases(void);   /* document 01's worked cases, every refusal, edges */
 void writes(void);  /* the packet writer */
 void joined(void);  /* option lists cut at every place */

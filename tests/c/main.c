@@ -3,6 +3,7 @@
 #include <stdio.h>
 
 int main(void) {
+    fields();
     cases();
     writes();
     joined();

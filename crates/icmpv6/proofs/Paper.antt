@@ -9,7 +9,8 @@ use lib.ListN.{getD, drop}
 use Rattle.paper.specs.Paper.{Paper}
 use Rattle.paper.proofs.Lossless.{lossless}
 use Rattle.refusal.proofs.Paper.{refusalOf, refusal-back, refusal-numbered}
-use Rattle.icmpv6_type.proofs.Paper.{typeFrom, type-back}
+use Rattle.icmpv6_type.specs.From.{typeFrom}
+use Rattle.icmpv6_type.proofs.Paper.{type-back}
 use Rattle.icmpv6.specs.declared.icmpv6_header.Icmpv6Header.{Icmpv6Header}
 use Rattle.icmpv6.specs.declared.icmpv6_header.HeaderRead.{HeaderRead}
 use Rattle.icmpv6.specs.declared.icmpv6_header.HeaderRead.the-variants as read

@@ -1,10 +1,9 @@
--- The numbers of the codes lose nothing: each enum can be taken back from them.
+-- The numbers of the codes lose nothing: the code of a code's number is that code.
 -- Assumes nothing.
 use Prim.Native.Nat.{ℕ, _<_}
-use mathlib.Core.Bool.{cond}
 use mathlib.Core.Path.{_≡_, refl, ap}
 use mathlib.Core.List.{List, [], _∷_}
-use lib.Dec.{eqb, lit<}
+use lib.Dec.{lit<}
 use Rattle.paper.proofs.Lossless.{lossless}
 use Rattle.wire.proofs.Cases.{same-below}
 use Rattle.icmpv6_codes.specs.declared.dest_unreachable_code.DestUnreachableCode.{DestUnreachableCode}
@@ -19,10 +18,7 @@ use Rattle.icmpv6_codes.specs.declared.parameter_problem_code.ParameterP
 use Rattle.icmpv6_codes.specs.declared.parameter_problem_code.ParameterProblemCode.the-variants.{ErroneousHeaderField, UnrecognizedNextHeader, UnrecognizedIpv6Option, FirstFragmentIncompleteHeaderChain, SrUpperLayerHeaderError, UnrecognizedNextHeaderByIntermediateNode, ExtensionHeaderTooBig, ExtensionHeaderChainTooLong, TooManyExtensionHeaders, TooManyOptionsInExtensionHeader, OptionTooBig}
 use Rattle.icmpv6_codes.specs.declared.parameter_problem_code.ParameterProblemListing.{ParameterProblemListing}
 use Rattle.icmpv6_codes.specs.declared.parameter_problem_code.ParameterProblemListing.the-variants as problem
-use Rattle.icmpv6_codes.specs.Codes.{destNumber, destTold, timeNumber, timeTold, problemNumber, problemTold}
-
-abbrev pub destOf : ℕ → DestUnreachableCode
-destOf n = cond (eqb n 0) NoRoute (cond (eqb n 1) Prohibited (cond (eqb n 2) BeyondScope (cond (eqb n 3) Address (cond (eqb n 4) Port (cond (eqb n 5) SourceAddressFailedPolicy (RejectRoute))))))
+use Rattle.icmpv6_codes.specs.Codes.{destNumber, destOf, destTold, timeNumber, timeOf, timeTold, problemNumber, problemOf, problemTold}
 
 pub dest-back : (c : DestUnreachableCode) → destOf (destNumber c) ≡ c
 dest-back NoRoute = refl
@@ -44,9 +40,6 @@ dest-told-back dest.NotListed = refl
 pub dest-told-lossless : (x y : DestUnreachableListing) → destTold x ≡ destTold y → x ≡ y
 dest-told-lossless = lossless destTold (λ p. destListing (p .values)) dest-told-back
 
-abbrev pub timeOf : ℕ → TimeExceededCode
-timeOf n = cond (eqb n 0) HopLimitExceeded (FragmentReassemblyTimeExceeded)
-
 pub time-back : (c : TimeExceededCode) → timeOf (timeNumber c) ≡ c
 time-back HopLimitExceeded = refl
 time-back FragmentReassemblyTimeExceeded = refl
@@ -61,9 +54,6 @@ time-told-back time.NotListed = refl
 
 pub time-told-lossless : (x y : TimeExceededListing) → timeTold x ≡ timeTold y → x ≡ y
 time-told-lossless = lossless timeTold (λ p. timeListing (p .values)) time-told-back
-
-abbrev pub problemOf : ℕ → ParameterProblemCode
-problemOf n = cond (eqb n 0) ErroneousHeaderField (cond (eqb n 1) UnrecognizedNextHeader (cond (eqb n 2) UnrecognizedIpv6Option (cond (eqb n 3) FirstFragmentIncompleteHeaderChain (cond (eqb n 4) SrUpperLayerHeaderError (cond (eqb n 5) UnrecognizedNextHeaderByIntermediateNode (cond (eqb n 6) ExtensionHeaderTooBig (cond (eqb n 7) ExtensionHeaderChainTooLong (cond (eqb n 8) TooManyExtensionHeaders (cond (eqb n 9) TooManyOptionsInExtensionHeader (OptionTooBig))))))))))
 
 pub problem-back : (c : ParameterProblemCode) → problemOf (problemNumber c) ≡ c
 problem-back ErroneousHeaderField = refl

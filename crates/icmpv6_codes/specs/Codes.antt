@@ -3,7 +3,7 @@
 use Prim.Native.Nat.{ℕ}
 use mathlib.Core.Bool.{cond}
 use mathlib.Core.List.{[], _∷_}
-use lib.Dec.{ltb}
+use lib.Dec.{eqb, ltb}
 use Rattle.paper.specs.Paper.{Paper, gives}
 use Rattle.icmpv6_codes.specs.declared.dest_unreachable_code.DestUnreachableCode.{DestUnreachableCode}
 use Rattle.icmpv6_codes.specs.declared.dest_unreachable_code.DestUnreachableCode.the-variants.{NoRoute, Prohibited, BeyondScope, Address, Port, SourceAddressFailedPolicy, RejectRoute}
@@ -31,6 +31,16 @@ destNumber Port = 4
 destNumber SourceAddressFailedPolicy = 5
 destNumber RejectRoute = 6
 
+-- the code of a number that is listed; of another, the last
+abbrev pub destOf : ℕ → DestUnreachableCode
+destOf n =
+    cond (eqb n 0) NoRoute
+    (cond (eqb n 1) Prohibited
+    (cond (eqb n 2) BeyondScope
+    (cond (eqb n 3) Address
+    (cond (eqb n 4) Port
+    (cond (eqb n 5) SourceAddressFailedPolicy RejectRoute)))))
+
 abbrev pub destTold : DestUnreachableListing → Paper
 destTold (dest.Listed c) = gives (destNumber c ∷ [])
 destTold dest.NotListed = gives []
@@ -38,6 +48,9 @@ destTold dest.NotListed = gives []
 abbrev pub timeNumber : TimeExceededCode → ℕ
 timeNumber HopLimitExceeded = 0
 timeNumber FragmentReassemblyTimeExceeded = 1
+
+abbrev pub timeOf : ℕ → TimeExceededCode
+timeOf n = cond (eqb n 0) HopLimitExceeded FragmentReassemblyTimeExceeded
 
 abbrev pub timeTold : TimeExceededListing → Paper
 timeTold (time.Listed c) = gives (timeNumber c ∷ [])
@@ -55,6 +68,19 @@ problemNumber ExtensionHeaderChainTooLong = 7
 problemNumber TooManyExtensionHeaders = 8
 problemNumber TooManyOptionsInExtensionHeader = 9
 problemNumber OptionTooBig = 10
+
+abbrev pub problemOf : ℕ → ParameterProblemCode
+problemOf n =
+    cond (eqb n 0) ErroneousHeaderField
+    (cond (eqb n 1) UnrecognizedNextHeader
+    (cond (eqb n 2) UnrecognizedIpv6Option
+    (cond (eqb n 3) FirstFragmentIncompleteHeaderChain
+    (cond (eqb n 4) SrUpperLayerHeaderError
+    (cond (eqb n 5) UnrecognizedNextHeaderByIntermediateNode
+    (cond (eqb n 6) ExtensionHeaderTooBig
+    (cond (eqb n 7) ExtensionHeaderChainTooLong
+    (cond (eqb n 8) TooManyExtensionHeaders
+    (cond (eqb n 9) TooManyOptionsInExtensionHeader OptionTooBig)))))))))
 
 abbrev pub problemTold : ParameterProblemListing → Paper
 problemTold (problem.Listed c) = gives (problemNumber c ∷ [])

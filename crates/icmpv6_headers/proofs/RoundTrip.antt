@@ -13,19 +13,8 @@ use Rattle.icmpv6_headers.specs.declared.router_advertisement_header.Rou
 use Rattle.icmpv6_headers.specs.declared.neighbor_advertisement_header.NeighborAdvertisementHeader.{
   NeighborAdvertisementHeader,
 }
-use Rattle.icmpv6_headers.specs.Headers.{
-  echoOf,
-  echoTold,
-  echoBytes,
-  routerOf,
-  routerTold,
-  routerBytes,
-  neighborOf,
-  neighborTold,
-  neighborBytes,
-}
+use Rattle.icmpv6_headers.specs.Headers.{echoOf, echoTold, echoBytes, routerOf, routerTold, routerBytes, neighborOf, neighborTold, neighborBytes, echoFrom, routerFrom, neighborFrom}
 use Rattle.paper.proofs.Lossless.{one-if-back}
-use Rattle.icmpv6_headers.proofs.Paper.{echoFrom, routerFrom, neighborFrom}
 
 pub echo-written : (h : IcmpEchoHeader) → h .id < 65536 → h .seq < 65536 → echoOf (echoBytes h) ≡ echoTold h
 echo-written h i s = simp (join16 (h .id) i, join16 (h .seq) s)

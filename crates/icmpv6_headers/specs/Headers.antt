@@ -3,6 +3,7 @@
 -- Assumes nothing.
 use Prim.Native.Nat.{ℕ, _+_}
 use mathlib.Core.List.{List, [], _∷_, _++_}
+use lib.Dec.{eqb}
 use lib.ListN.{getD}
 use Rattle.paper.specs.Paper.{oneIf}
 use Rattle.wire.specs.Wire.{word16At, bytes16, hasFlag, flagOf}
@@ -33,6 +34,22 @@ routerTold h =
 
 abbrev pub neighborTold : NeighborAdvertisementHeader → List ℕ
 neighborTold h = oneIf (h .router) ∷ oneIf (h .solicited) ∷ oneIf (h .«override_flag») ∷ []
+
+-- the header that is told as these numbers
+abbrev pub echoFrom : List ℕ → IcmpEchoHeader
+echoFrom l = record { id = getD l 0 0; seq = getD l 1 0 }
+
+abbrev pub routerFrom : List ℕ → RouterAdvertisementHeader
+routerFrom l =
+    record {
+      «cur_hop_limit» = getD l 0 0;
+      «managed_address_config» = eqb (getD l 1 0) 1;
+      «other_config» = eqb (getD l 2 0) 1;
+      «router_lifetime» = getD l 3 0;
+    }
+
+abbrev pub neighborFrom : List ℕ → NeighborAdvertisementHeader
+neighborFrom l = record { router = eqb (getD l 0 0) 1; solicited = eqb (getD l 1 0) 1; «override_flag» = eqb (getD l 2 0) 1 }
 
 abbrev pub echoBytes : IcmpEchoHeader → List ℕ
 echoBytes h = bytes16 (h .id) ++ bytes16 (h .seq)

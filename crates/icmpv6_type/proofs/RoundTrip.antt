@@ -22,7 +22,8 @@ use Rattle.icmpv6_type.specs.declared.Icmpv6Type.the-variants.{Unknown, 
 use Rattle.icmpv6_type.specs.Value.{typeTold, typeOf, typeNumber, codeNumber, fieldBytes, fieldsOf, nothing, wordOf}
 use Rattle.icmpv6_type.specs.Reserved.{reservedOf, cleared, Fits, misnamed}
 use Rattle.icmpv6_type.proofs.Laws.{as-known, as-unknown}
-use Rattle.icmpv6_type.proofs.Paper.{typeFrom, valueOf, type-back}
+use Rattle.icmpv6_type.specs.From.{ofKind, typeFrom}
+use Rattle.icmpv6_type.proofs.Paper.{type-back}
 
 -- a code that is listed is known
 known-1 : {c : ℕ} → c < 7 → known 1 c ≡ true
@@ -49,7 +50,7 @@ module _ (p q r s : ℕ) (hp : p < 256) (hq : q < 256) (hr : r < 256) (hs : s < 
   dropped = simp (clear-all p hp, clear-all q hq, clear-all r hr, clear-all s hs)
 
   -- a pair that the table has, by its row
-  known-written : {k c : ℕ} → Known k c → Written (valueOf k (fieldsOf k c four)) k c (cleared k c four)
+  known-written : {k c : ℕ} → Known k c → Written (ofKind k (fieldsOf k c four)) k c (cleared k c four)
   unfolding known
   known-written (unreachable {c} h) = (refl, dest-number c h, simp (lt-ltb c 7 h, dropped))
   known-written tooBig = (refl, refl, word)

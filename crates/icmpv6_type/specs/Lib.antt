@@ -1,2 +1,3 @@
 pub mod Value
+pub mod From
 pub mod Reserved

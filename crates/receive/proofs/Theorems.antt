@@ -3,28 +3,33 @@
 use Prim.Native.Nat.{ℕ, _+_, _-_, _<_, _≤_}
 use mathlib.Core.Path.{_≡_, refl, sym, ap, _∙_}
 use mathlib.Core.Logic.{_↔_}
-use mathlib.Core.Bool.{Bool, true, false, cond, not}
+use mathlib.Core.Bool.{Bool, true, false, false≢true, cond, not}
 use mathlib.Core.List.{List, [], _∷_}
 use native.Mathlib.Omega.{arith}
 use lib.Dec.{eqb}
-use lib.ListN.{length, getD}
-use borrow.Author.Tests.{eq-eqb, ne-eqb, eqb-false}
-use Rattle.paper.specs.Paper.{Paper}
+use lib.ListN.{length, getD, drop}
+use lib.Seq.{drop-length}
+use borrow.Author.Tests.{eq-eqb, ne-eqb, eqb-false, not-false}
+use Rattle.paper.specs.Paper.{Paper, value}
 use Rattle.packet_length.specs.Length.{fits}
 use Rattle.packet_length.proofs.Laws.{Between, fits-between, fits-or, misfit}
 use Rattle.message_table.specs.Table.{fixedLen, isNdp}
 use Rattle.icmpv6_payload_slice.specs.Dispatch.{payloadOf, kindAt, byBytes}
-use Rattle.icmpv6_payload_slice.proofs.Laws.{whole, not-short, fitting}
-use Rattle.ndp_walk.specs.Walk.{Clean}
+use Rattle.icmpv6_payload_slice.proofs.Laws.{whole, not-short, options-within, fitting}
+use Rattle.ndp_walk.specs.Walk.{Ending, Clean, RefusedAt, walkFrom, walkOn}
 use Rattle.ndp_options.specs.Walk.{walk}
 use Rattle.ndp_option_list.specs.Whole.{occurs}
 use Rattle.receive.specs.Reasons.{reason, firstOf, None, First}
 use Rattle.receive.specs.Rules.{ownOf}
-use Rattle.receive.specs.Receive.{optionsOf, isSound, optionReasons, reasons, reasonOf, accepted, notReceived, answerBy, receiveOf}
+use Rattle.receive.specs.Receive.{optionsOf, isClean, isSound, optionReasons, reasons, reasonOf, accepted, notReceived, answerBy, receiveOf}
 use Rattle.receive.specs.Given.{givenFor, among}
 use Rattle.receive.proofs.First.{none-first, first-none, named, names, first-numbered, first-among, without}
 use Rattle.receive.proofs.Answers.{answer-0, answer-n, dispatch-low, numbered}
-use Rattle.receive.proofs.Types.{Kind, solicits-routers, advertises-router, solicits-neighbor, advertises-neighbor, redirects, other, view, ndp-kind, other-kind, solicits-kind}
+use Rattle.receive.proofs.Types.{Kind, solicits-routers, advertises-router, solicits-neighbor, advertises-neighbor, redirects, other, view, ndp-kind, other-kind, no-options, solicits-kind}
+
+pub is-clean : (e : Ending) → isClean e ≡ true → e ≡ Clean
+is-clean Clean h = refl
+is-clean (RefusedAt at why) h = absurd (false≢true h)
 
 module _ (hops : ℕ) (source destination packet : List ℕ) where
   -- of a length that fits the first of the reasons is told
@@ -69,6 +74,23 @@ module _ (hops : ℕ) (source destination packet : List ℕ) where
     λ e. accepting (ap (λ (p : Paper). p .number) e),
     λ h. rw (tested (h .0), none-first _ (h .1)) (opened-whole (h .0) (not-lacking (h .0) (h .1))),
   )
+
+  -- The options of an accepted packet walk clean, whatever its type: a type that has none has an empty list.
+  pub clean-options : None (reasons hops source destination packet) → walk (optionsOf packet) .ending ≡ Clean
+  unfolding reasons optionReasons walkFrom walkOn
+  clean-options = by (isNdp (getD packet 0 0)) refl
+    where
+      by : (x : Bool) → isNdp (getD packet 0 0) ≡ x → None (cond x (reason 1 (not (eqb hops 255)) ∷ reason 2 (not (isSound source destination packet)) ∷ reason 3 (not (eqb (getD packet 1 0) 0)) ∷ reason 4 (eqb (byBytes packet .number) 4) ∷ optionReasons (getD packet 0 0) (optionsOf packet) source destination packet) (reason 2 (not (isSound source destination packet)) ∷ [])) → walk (optionsOf packet) .ending ≡ Clean
+      by true e h = is-clean _ (not-false _ (h .1 .1 .1 .1 .0))
+      by false e h = simp (no-options packet e, drop-length)
+
+  -- What is told of an accepted packet is the place of its options, which is within it; from there on they walk clean.
+  pub handed-on : receiveOf hops source destination packet .number ≡ 0 →
+      let at = value 1 (receiveOf hops source destination packet) in (at ≤ length packet) × (walk (drop at packet) .ending ≡ Clean)
+  handed-on e =
+      let h = accepting e in
+      let is = accepted-exactly .1 h in
+      rw is (options-within 8 (kindAt packet) packet (h .0 .low) (not-lacking (h .0) (h .1)), clean-options (h .1))
 
   -- It is refused for a reason exactly if that is the first of them that holds.
   pub refused-exactly : (n : ℕ) → (receiveOf hops source destination packet ≡ notReceived n) ↔ (Between (length packet) × First n (reasons hops source destination packet))

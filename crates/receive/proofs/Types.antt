@@ -6,12 +6,12 @@ use mathlib.Core.Bool.{Bool, true, false, false≢true, cond}
 use mathlib.Core.List.{List, [], _∷_}
 use native.Mathlib.Omega.{arith}
 use native.Mathlib.Decide.{decLe}
-use lib.ListN.{getD}
+use lib.ListN.{length, getD}
 use borrow.Author.Tests.{ne-eqb, le-leb, lt-leb}
 use Rattle.wire.proofs.Cases.{cases}
 use Rattle.message_table.specs.Table.{known, fixedLen, isNdp}
 use Rattle.message_table.proofs.Laws.{fixed-of-133, fixed-outside}
-use Rattle.icmpv6_payload_slice.specs.Dispatch.{kindAt}
+use Rattle.icmpv6_payload_slice.specs.Dispatch.{optionsAt, kindAt}
 use Rattle.receive.specs.Given.{givenFor}
 
 pub data Kind : ℕ → Type 0 where
@@ -81,3 +81,11 @@ solicits-kind p e = rw e (by (known 133 (getD p 1 0)))
     by : (b : Bool) → fixedLen (cond b 133 0) ≡ 0
     by true = fixed-of-133
     by false = fixed-outside 0 refl
+
+-- the options of a packet of a type that is none of Neighbor Discovery are at its end
+pub no-options : (p : List ℕ) → isNdp (getD p 0 0) ≡ false → optionsAt 8 (kindAt p) (length p) ≡ length p
+no-options p n = by (known (getD p 0 0) (getD p 1 0))
+  where
+    by : (b : Bool) → optionsAt 8 (cond b (getD p 0 0) 0) (length p) ≡ length p
+    by true = rw n
+    by false = refl

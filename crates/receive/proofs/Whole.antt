@@ -13,7 +13,7 @@ use Rattle.message_table.specs.Table.{isNdp}
 use Rattle.packet_length.proofs.Laws.{sized-fits}
 use Rattle.icmpv6_type.proofs.Laws.{as-known}
 use Rattle.icmpv6.specs.Head.{decodeOf, fieldsAt}
-use Rattle.ndp_walk.specs.Walk.{Item, Ending, Clean, RefusedAt, Walk}
+use Rattle.ndp_walk.specs.Walk.{Item, Clean, Walk}
 use Rattle.ndp_options.specs.Walk.{walk, walkFrom, stepOf}
 use Rattle.ndp_options.specs.Told.{stepTold}
 use Rattle.ndp_options.specs.Run.{Steps, As}
@@ -32,11 +32,7 @@ use Rattle.icmpv6_payload_slice.specs.declared.PayloadRead.the-variants.{Payloa
 use Rattle.icmpv6_payload_slice.specs.Dispatch.{optionsAt, kindAt}
 use Rattle.icmpv6_payload_slice.proofs.Opened.{Opened, opened}
 use Rattle.receive.proofs.Types.{ndp-known, ndp-kind}
-use Rattle.receive.proofs.Theorems.{accepting, accepted-exactly, not-lacking, opened-whole}
-
-is-clean : (e : Ending) → isClean e ≡ true → e ≡ Clean
-is-clean Clean h = refl
-is-clean (RefusedAt at why) h = absurd (false≢true h)
+use Rattle.receive.proofs.Theorems.{is-clean, accepting, accepted-exactly, not-lacking, opened-whole}
 
 -- a walk that is clean is clean from every place that one comes to
 whole-steps : (s : List ℕ) → walk s .ending ≡ Clean → (is : List Item) (at : ℕ) → Steps s 0 is at → (x : Step) → stepTold x ≡ stepOf s at → isWhole x ≡ true

@@ -1,0 +1,24 @@
+// The calls for C take numbers and byte buffers and answer one struct of numbers; include/brothladder.h tells a C programmer the same.
+// Here is what came: the first number of every answer. All differ, over all calls, and none is 0, so that no answer reads as false and
+// memory that was cleared is no answer.
+pub const REFUSED: u32 = 1;
+
+pub const KNOWN: u32 = 2;
+
+pub const UNKNOWN: u32 = 3;
+
+pub const VALID: u32 = 4;
+
+pub const INVALID: u32 = 5;
+
+pub const OPTION: u32 = 6;
+
+pub const END: u32 = 7;
+
+pub const STOPPED: u32 = 8;
+
+pub const RECEIVED: u32 = 9;
+
+pub const WRITTEN: u32 = 10;
+
+pub const PREFIX: u32 = 11;

@@ -1,0 +1,52 @@
+-- The numbers for C lose nothing: the header record can be taken back from the struct.
+-- Assumes nothing.
+use Prim.Native.Nat.{ℕ}
+use mathlib.Core.Bool.{cond}
+use mathlib.Core.Path.{_≡_, refl, ap}
+use mathlib.Core.List.{List, _∷_}
+use lib.Dec.{eqb}
+use Rattle.refusal.proofs.Paper.{refusal-numbered}
+use Rattle.c_answer.proofs.Why.{why, why-back}
+use Rattle.icmpv6_type.specs.declared.Icmpv6Type.{Icmpv6Type}
+use Rattle.icmpv6_type.specs.declared.Icmpv6Type.the-variants.{Unknown, DestinationUnreachable, PacketTooBig, TimeExceeded, ParameterProblem, EchoRequest, EchoReply, RouterSolicitation, RouterAdvertisement, NeighborSolicitation, NeighborAdvertisement, Redirect}
+use Rattle.icmpv6_type.specs.Value.{typeTold}
+use Rattle.icmpv6_type.specs.From.{typeFrom}
+use Rattle.icmpv6_type.proofs.Paper.{type-back}
+use Rattle.icmpv6.specs.Head.{readTold}
+use Rattle.icmpv6.specs.declared.icmpv6_header.HeaderRead.{HeaderRead}
+use Rattle.icmpv6.specs.declared.icmpv6_header.HeaderRead.the-variants.{Header, Refused as NoHeader}
+use Rattle.c_answer.specs.Answer.{UNKNOWN}
+use Rattle.c_decode.specs.declared.Head.{Head}
+use Rattle.c_decode.specs.Head.{headOf, headFor}
+
+-- the value on paper, from type, code and fields
+abbrev toldFrom : Head → List ℕ
+toldFrom h =
+    let coded = h .«icmp_type» ∷ h .code ∷ h .field in
+    cond (eqb (h .answer) UNKNOWN) (0 ∷ coded)
+    (cond (eqb (h .«icmp_type») 1) coded
+    (cond (eqb (h .«icmp_type») 3) coded (cond (eqb (h .«icmp_type») 4) coded (h .«icmp_type» ∷ h .field))))
+
+value-back : (sum : ℕ) (t : Icmpv6Type) → typeFrom (toldFrom (headOf sum (typeTold t))) ≡ t
+value-back sum (Unknown k c w) = refl
+value-back sum (DestinationUnreachable c) = type-back (DestinationUnreachable c)
+value-back sum (PacketTooBig mtu) = refl
+value-back sum (TimeExceeded c) = type-back (TimeExceeded c)
+value-back sum (ParameterProblem h) = type-back (ParameterProblem h)
+value-back sum (EchoRequest h) = refl
+value-back sum (EchoReply h) = refl
+value-back sum RouterSolicitation = refl
+value-back sum (RouterAdvertisement h) = type-back (RouterAdvertisement h)
+value-back sum NeighborSolicitation = refl
+value-back sum (NeighborAdvertisement h) = type-back (NeighborAdvertisement h)
+value-back sum Redirect = refl
+
+abbrev headerFrom : Head → HeaderRead
+headerFrom h =
+    cond (eqb (h .refusal) 0) (Header (record { «icmp_type» = typeFrom (toldFrom h); checksum = h .checksum }))
+    (NoHeader (why (h .refusal) (h .value)))
+
+pub head-back : (r : HeaderRead) → headerFrom (headFor (readTold r)) ≡ r
+unfolding headFor
+head-back (Header h) = rw (value-back (h .checksum) (h .«icmp_type»))
+head-back (NoHeader r) = simp (refusal-numbered r) (ap NoHeader (why-back r))

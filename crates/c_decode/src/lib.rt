@@ -1,0 +1,127 @@
+// The head of a packet.
+ghost use mathlib.Core.Path.{_≡_};
+ghost use Prim.Native.Nat.{_≤_};
+ghost use lib.ListN.{length};
+ghost use Rattle.wire.specs.Wire.{word32At};
+ghost use Rattle.icmpv6.specs.Head.{fieldsAt, decodeOf};
+ghost use Rattle.c_decode.specs.Head.{fieldsFor, headAt, headFor};
+use icmpv6_headers::icmp_echo_header::IcmpEchoHeader;
+use icmpv6_headers::neighbor_advertisement_header::NeighborAdvertisementHeader;
+use icmpv6_headers::router_advertisement_header::RouterAdvertisementHeader;
+use packet_length::PacketLength;
+
+// Type, code and checksum are wider than their bytes, so that the struct has no hole.
+#[repr(C)]
+pub struct Head {
+    pub answer: u32,
+    pub refusal: u32,
+    pub value: [u64; 4],
+    pub icmp_type: u16,
+    pub code: u16,
+    pub checksum: u32,
+    pub field: [u32; 4],
+}
+
+// Bytes 4 to 7.
+fn rest_of(packet: &[u8]) -> [u8; 4]
+    requires { ⌜ 8 ≤ length (now packet) ⌝ }
+    ensures { λ r. ⌜ r ≡ fieldsAt (now (packet .entry)) ⌝ }
+{
+    [packet[4], packet[5], packet[6], packet[7]]
+}
+
+// The same as one number.
+fn word_of(packet: &[u8]) -> u32
+    requires { ⌜ 8 ≤ length (now packet) ⌝ }
+    ensures { λ r. ⌜ r ≡ word32At (now (packet .entry)) 4 ⌝ }
+{
+    wire::u32_from_be(packet[4], packet[5], packet[6], packet[7])
+}
+
+// What a type keeps of bytes 4 to 7. Straight from the bytes: an Icmpv6Type in between would be made only to be matched again.
+fn fields_of(kind: u8, packet: &[u8]) -> [u32; 4]
+    requires { ⌜ 8 ≤ length (now packet) ⌝ }
+    ensures { λ r. ⌜ r ≡ fieldsFor kind (fieldsAt (now (packet .entry))) ⌝ }
+{
+    match kind {
+        2 => [word_of(packet), 0, 0, 0],
+        4 => [word_of(packet), 0, 0, 0],
+        128 => {
+            let h = IcmpEchoHeader::from_bytes(rest_of(packet));
+            [h.id as u32, h.seq as u32, 0, 0]
+        }
+        129 => {
+            let h = IcmpEchoHeader::from_bytes(rest_of(packet));
+            [h.id as u32, h.seq as u32, 0, 0]
+        }
+        134 => {
+            let h = RouterAdvertisementHeader::from_bytes(rest_of(packet));
+            [
+                h.cur_hop_limit as u32,
+                wire::flag_of(h.managed_address_config, 1) as u32,
+                wire::flag_of(h.other_config, 1) as u32,
+                h.router_lifetime as u32,
+            ]
+        }
+        136 => {
+            let h = NeighborAdvertisementHeader::from_bytes(rest_of(packet));
+            [
+                wire::flag_of(h.router, 1) as u32,
+                wire::flag_of(h.solicited, 1) as u32,
+                wire::flag_of(h.override_flag, 1) as u32,
+                0,
+            ]
+        }
+        _ => [0, 0, 0, 0],
+    }
+}
+
+fn head_of(kind: u8, code: u8, packet: &[u8]) -> Head
+    requires { ⌜ 8 ≤ length (now packet) ⌝ }
+    ensures { λ r. ⌜ r ≡ headAt kind code (now (packet .entry)) ⌝ }
+{
+    let checksum = wire::u16_from_be(packet[2], packet[3]);
+    if message_table::is_known(kind, code) {
+        let field = fields_of(kind, packet);
+        return Head {
+            answer: c_answer::KNOWN,
+            refusal: 0,
+            value: [0, 0, 0, 0],
+            icmp_type: kind as u16,
+            code: code as u16,
+            checksum: checksum as u32,
+            field,
+        };
+    }
+    Head {
+        answer: c_answer::UNKNOWN,
+        refusal: 0,
+        value: [0, 0, 0, 0],
+        icmp_type: kind as u16,
+        code: code as u16,
+        checksum: checksum as u32,
+        field: [word_of(packet), 0, 0, 0],
+    }
+}
+
+#[no_mangle]
+pub extern "C" fn brothladder_decode(packet: &[u8]) -> Head
+    ensures { λ r. ⌜ r ≡ headFor (decodeOf (now (packet .entry))) ⌝ }
+{
+    match packet_length::check_len(packet.len()) {
+        PacketLength::Refused(why) => {
+            let n = why.numbers();
+            let value = n.values;
+            Head {
+                answer: c_answer::REFUSED,
+                refusal: n.number as u32,
+                value,
+                icmp_type: 0,
+                code: 0,
+                checksum: 0,
+                field: [0, 0, 0, 0],
+            }
+        }
+        PacketLength::Fits => head_of(packet[0], packet[1], packet),
+    }
+}

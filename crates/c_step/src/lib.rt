@@ -1,0 +1,80 @@
+// A step of the option walk. The caller feeds each step the place that the one before it answered.
+ghost use mathlib.Core.Path.{_≡_};
+ghost use Rattle.ndp_options.specs.Walk.{stepOf};
+ghost use Rattle.ndp_options.specs.Told.{kindNumber};
+ghost use Rattle.c_step.specs.Stepped.{bare, steppedFor};
+use ndp_options::Cursor;
+use ndp_options::NdpOptionKind;
+use ndp_options::Step;
+
+// `next` of End and Stopped is the place that was fed: a walk that is over stays over.
+#[repr(C)]
+pub struct Stepped {
+    pub answer: u32,
+    pub refusal: u32,
+    pub value: [u64; 4],
+    pub kind: u32,
+    pub option_type: u32,
+    pub at: usize,
+    pub length: usize,
+    pub next: usize,
+}
+
+fn kind_number(kind: NdpOptionKind) -> u32
+    ensures { λ r. ⌜ r ≡ kindNumber kind ⌝ }
+{
+    match kind {
+        NdpOptionKind::Unknown => 0,
+        NdpOptionKind::SourceLinkLayerAddress => 1,
+        NdpOptionKind::TargetLinkLayerAddress => 2,
+        NdpOptionKind::PrefixInformation => 3,
+        NdpOptionKind::RedirectedHeader => 4,
+        NdpOptionKind::Mtu => 5,
+    }
+}
+
+// An answer without an option.
+fn bare(answer: u32, refusal: u32, value: [u64; 4], next: usize) -> Stepped
+    ensures { λ r. ⌜ r ≡ bare answer refusal value next ⌝ }
+{
+    Stepped {
+        answer,
+        refusal,
+        value,
+        kind: 0,
+        option_type: 0,
+        at: 0,
+        length: 0,
+        next,
+    }
+}
+
+#[no_mangle]
+pub extern "C" fn brothladder_step(options: &[u8], at: usize) -> Stepped
+    ensures { λ r. ⌜ r ≡ steppedFor at (stepOf (now (options .entry)) at) ⌝ }
+{
+    let c = Cursor { at };
+    match c.step(options) {
+        Step::Handed(option, next) => {
+            let kind = option.kind;
+            let id = option.option_type;
+            Stepped {
+                answer: c_answer::OPTION,
+                refusal: 0,
+                value: [0, 0, 0, 0],
+                kind: kind_number(kind),
+                option_type: id.0 as u32,
+                at: option.at,
+                length: option.len,
+                next: next.at,
+            }
+        }
+        Step::End => bare(c_answer::END, 0, [0, 0, 0, 0], at),
+        Step::Refused(why, next) => {
+            let n = why.numbers();
+            let value = n.values;
+            bare(c_answer::REFUSED, n.number as u32, value, next.at)
+        }
+        Step::Stopped => bare(c_answer::STOPPED, 0, [0, 0, 0, 0], at),
+    }
+}

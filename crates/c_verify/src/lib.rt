@@ -1,0 +1,43 @@
+// The verdict on a packet's checksum.
+ghost use mathlib.Core.Path.{_≡_};
+ghost use Rattle.checksum.specs.Icmpv6.{verdictOf};
+ghost use Rattle.c_verify.specs.Verified.{verifiedFor};
+use checksum::Verdict;
+
+#[repr(C)]
+pub struct Verified {
+    pub answer: u32,
+    pub refusal: u32,
+    pub value: [u64; 4],
+}
+
+#[no_mangle]
+pub extern "C" fn brothladder_verify(
+    packet: &[u8],
+    source: &[u8; 16],
+    destination: &[u8; 16],
+) -> Verified
+    ensures { λ r. ⌜ r ≡ verifiedFor (verdictOf (now (source .entry)) (now (destination .entry)) (now (packet .entry))) ⌝ }
+{
+    match checksum::verify(packet, source, destination) {
+        Verdict::Valid => Verified {
+            answer: c_answer::VALID,
+            refusal: 0,
+            value: [0, 0, 0, 0],
+        },
+        Verdict::Invalid => Verified {
+            answer: c_answer::INVALID,
+            refusal: 0,
+            value: [0, 0, 0, 0],
+        },
+        Verdict::Refused(why) => {
+            let n = why.numbers();
+            let value = n.values;
+            Verified {
+                answer: c_answer::REFUSED,
+                refusal: n.number as u32,
+                value,
+            }
+        }
+    }
+}

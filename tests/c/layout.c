@@ -1,0 +1,71 @@
+/* Where each number of each answer stands, written down by hand: two members that were exchanged in the source and in the header
+   together would show nowhere else. And where each field of a head stands, by packets in which that field alone is set. */
+#include "check.h"
+
+#define AT(name, member, place, bytes)                                                                                        \
+    __extension__ _Static_assert(offsetof(struct brothladder_##name, member) == place                                         \
+                                     && sizeof(((struct brothladder_##name *)0)->member) == bytes,                            \
+                                 #name "." #member)
+#define BEGINS(name) AT(name, answer, 0, 4); AT(name, refusal, 4, 4); AT(name, value, 8, 32)
+#define ENDS(name, bytes) __extension__ _Static_assert(sizeof(struct brothladder_##name) == bytes, #name)
+
+BEGINS(head);
+AT(head, type, 40, 2);
+AT(head, code, 42, 2);
+AT(head, checksum, 44, 4);
+AT(head, field, 48, 16);
+ENDS(head, 64);
+
+BEGINS(verified);
+ENDS(verified, 40);
+
+BEGINS(stepped);
+AT(stepped, kind, 40, 4);
+AT(stepped, type, 44, 4);
+AT(stepped, at, 48, 8);
+AT(stepped, length, 56, 8);
+AT(stepped, next, 64, 8);
+ENDS(stepped, 72);
+
+BEGINS(received);
+AT(received, options_at, 40, 8);
+AT(received, options_length, 48, 8);
+ENDS(received, 56);
+
+BEGINS(written);
+AT(written, length, 40, 8);
+ENDS(written, 48);
+
+BEGINS(prefix);
+AT(prefix, prefix_length, 40, 4);
+AT(prefix, on_link, 44, 2);
+AT(prefix, autonomous, 46, 2);
+AT(prefix, valid_lifetime, 48, 4);
+AT(prefix, preferred_lifetime, 52, 4);
+AT(prefix, prefix, 56, 16);
+ENDS(prefix, 72);
+
+/* of this head the field at `index` is `value`, and the others are 0 */
+static void alone(const char *bytes, size_t index, uint32_t value) {
+    uint8_t b[8];
+    struct brothladder_head h = brothladder_decode(b, hex(bytes, b));
+    for (size_t i = 0; i < 4; i++) same(bytes, h.field[i], i == index ? value : 0);
+}
+
+/* RFC 4443, sections 3.2, 3.4 and 4; RFC 4861, sections 4.2 (M, O are the high bits of byte 5) and 4.4 (R, S, O of byte 4) */
+void fields(void) {
+    alone("c8 00 00 00 12 34 56 78", BROTHLADDER_FIELD_BYTES, 0x12345678);
+    alone("02 00 00 00 12 34 56 78", BROTHLADDER_FIELD_MTU, 0x12345678);
+    alone("04 00 00 00 12 34 56 78", BROTHLADDER_FIELD_POINTER, 0x12345678);
+    alone("80 00 00 00 12 34 00 00", BROTHLADDER_FIELD_IDENTIFIER, 0x1234);
+    alone("80 00 00 00 00 00 56 78", BROTHLADDER_FIELD_SEQUENCE, 0x5678);
+    alone("81 00 00 00 12 34 00 00", BROTHLADDER_FIELD_IDENTIFIER, 0x1234);
+    alone("81 00 00 00 00 00 56 78", BROTHLADDER_FIELD_SEQUENCE, 0x5678);
+    alone("86 00 00 00 40 00 00 00", BROTHLADDER_FIELD_HOP_LIMIT, 64);
+    alone("86 00 00 00 00 80 00 00", BROTHLADDER_FIELD_MANAGED, 1);
+    alone("86 00 00 00 00 40 00 00", BROTHLADDER_FIELD_OTHER, 1);
+    alone("86 00 00 00 00 00 07 08", BROTHLADDER_FIELD_LIFETIME, 1800);
+    alone("88 00 00 00 80 00 00 00", BROTHLADDER_FIELD_ROUTER, 1);
+    alone("88 00 00 00 40 00 00 00", BROTHLADDER_FIELD_SOLICITED, 1);
+    alone("88 00 00 00 20 00 00 00", BROTHLADDER_FIELD_OVERRIDE, 1);
+}

@@ -1,0 +1,89 @@
+#!/usr/bin/env python3
+"""test_header.py: tools/header and tests/c/layout.c see what they are there for. Each mistake is made on a copy of the files that they read, and
+one of the two must fail. The last line counts."""
+import os
+import re
+import shutil
+import subprocess
+import sys
+import tempfile
+
+root = os.path.dirname(os.path.dirname(os.path.dirname(os.path.abspath(__file__))))
+HEADER, PREFIX, DECODE, STEP, ANSWER = "include/brothladder.h", "crates/c_prefix/src/lib.rt", "crates/c_decode/src/lib.rt", "crates/c_step/src/lib.rt", "crates/c_answer/src/lib.rt"
+
+
+def copied(to):
+    for folder in ("include", "tests/c"):
+        shutil.copytree(f"{root}/{folder}", f"{to}/{folder}")
+    for crate in sorted(os.listdir(root + "/crates")):
+        if crate.startswith("c_"):
+            shutil.copytree(f"{root}/crates/{crate}/src", f"{to}/crates/{crate}/src")
+        elif crate in ("refusal", "ndp_options", "icmpv6_type"):
+            shutil.copytree(f"{root}/crates/{crate}/specs", f"{to}/crates/{crate}/specs")
+    os.makedirs(to + "/tools")
+    shutil.copy(root + "/tools/header", to + "/tools/header")
+
+
+def seen(to):
+    """Which of the two fails over the copy."""
+    cc = shutil.which("gcc") or shutil.which("x86_64-linux-gnu-gcc")
+    layout = [cc, "-std=c99", "-Wall", "-Wextra", "-Wpedantic", "-Werror", "-fsyntax-only", "-Iinclude", "tests/c/layout.c"]
+    return [name for name, run in (("header", [sys.executable, "tools/header"]), ("layout", layout)) if subprocess.run(run, cwd=to, capture_output=True).returncode]
+
+
+def exchanged(a, b):
+    """Two pieces of a file change places."""
+    def change(text):
+        assert text.count(a) == 1 and text.count(b) == 1, (a, b)
+        return text.replace(a, "\0").replace(b, a).replace("\0", b)
+    return change
+
+
+def instead(a, b):
+    def change(text):
+        assert text.count(a) == 1, a
+        return text.replace(a, b)
+    return change
+
+
+def fields(a, b):
+    """The indexes of two fields change places."""
+    def change(text):
+        numbers = [re.search(rf"#define BROTHLADDER_FIELD_{n} (\d)", text).group(1) for n in (a, b)]
+        for name, number in ((a, numbers[1]), (b, numbers[0])):
+            text = re.sub(rf"(#define BROTHLADDER_FIELD_{name}) \d", rf"\1 {number}", text)
+        return text
+    return change
+
+
+lifetimes = {HEADER: exchanged("uint32_t valid_lifetime;", "uint32_t preferred_lifetime;"), PREFIX: exchanged("pub valid_lifetime: u32", "pub preferred_lifetime: u32")}
+places = {HEADER: exchanged("    size_t at;", "    size_t next;"), STEP: exchanged("pub at: usize", "pub next: usize")}
+wide = {HEADER: instead("uint16_t on_link;", "uint32_t on_link;"), PREFIX: instead("pub on_link: u16", "pub on_link: u32")}
+MISTAKES = [
+    ("nothing", {}, []),
+    ("two members exchanged in source and header", lifetimes, ["layout"]),
+    ("two places exchanged in source and header", places, ["layout"]),
+    ("a member made wider in source and header", wide, ["layout"]),
+    ("two members exchanged in the header", {HEADER: lifetimes[HEADER]}, ["header", "layout"]),
+    ("two members exchanged in the source", {PREFIX: lifetimes[PREFIX]}, ["header"]),
+    ("the indexes of M and O exchanged", {HEADER: fields("MANAGED", "OTHER")}, ["header"]),
+    ("the indexes of R and S exchanged", {HEADER: fields("ROUTER", "SOLICITED")}, ["header"]),
+    ("the indexes of identifier and sequence exchanged", {HEADER: fields("IDENTIFIER", "SEQUENCE")}, ["header"]),
+    ("M and O exchanged in the source", {DECODE: exchanged("h.managed_address_config", "h.other_config")}, ["header"]),
+    ("an index left out", {HEADER: instead("#define BROTHLADDER_FIELD_OVERRIDE 2", "")}, ["header", "layout"]),
+    ("an answer with another number", {ANSWER: instead("END: u32 = 7", "END: u32 = 12")}, ["header"]),
+    ("a refusal with another number", {HEADER: instead("ZERO_LENGTH 6u", "ZERO_LENGTH 5u")}, ["header"]),
+    ("a member without its place", {"tests/c/layout.c": instead("AT(stepped, next, 64, 8);\n", "")}, ["header"]),
+]
+failed = 0
+for what, changes, wanted in MISTAKES:
+    with tempfile.TemporaryDirectory() as to:
+        copied(to)
+        for path, change in changes.items():
+            text = open(f"{to}/{path}").read()
+            open(f"{to}/{path}", "w").write(change(text))
+        if (got := seen(to)) != wanted:
+            failed += 1
+            print(f"test_header: {what}: fails {got or 'nowhere'}, and {wanted or 'nowhere'} is wanted")
+print(f"test_header: {len(MISTAKES) - failed} passed, {failed} failed")
+sys.exit(failed > 0)
