@@ -1,6 +1,7 @@
 -- The numbers for C lose nothing of a refusal, and of a packet that is accepted they tell where its options are. What kind it is its first byte says.
 -- Assumes nothing.
 use mathlib.Core.Path.{_≡_, refl}
+use Prim.Native.Nat.{ℕ}
 use mathlib.Core.List.{List}
 use Rattle.refusal.specs.declared.Refusal.{Refusal}
 use Rattle.refusal.proofs.Paper.{refusal-numbered}

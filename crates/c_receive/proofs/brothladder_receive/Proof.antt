@@ -1,15 +1,49 @@
 -- `brothladder_receive` meets its contract: in each arm the promise of `receive_check` is rewritten to the case that the arm matched. The place
 -- that an accepted packet is handed on with is within it.
 -- Assumes nothing.
-use Prim.Native.Nat.{_≤_}
-use mathlib.Core.Path.{_≡_, sym, ap, _∙_}
 use native.Mathlib.Omega.{arith}
-use denote.Ref.{now}
-use lib.ListN.{length}
 use Rattle.refusal.proofs.Paper.{refusal-numbered}
-use Rattle.icmpv6_payload_slice.proofs.Opened.{Opened}
 use Rattle.receive.proofs.Whole.{accepted-opened}
 use Rattle.c_receive.specs.Received.{receivedFor}
 use borrow.Author.Needs.{needs}
 use Rattle.c_receive.proofs.brothladder_receive.Statement.{statement}
 use Rattle.c_receive.proofs.brothladder_receive.Tie as tie
+
+receive-check-requires : tie.Need-receive-check-requires
+receive-check-requires c κs = search needs
+
+enum-known-message : tie.Need-enum-known-message
+enum-known-message c = search needs
+
+sub-t14 : tie.Need-sub-t14
+sub-t14 c = accepted-opened _ _ _ _ _ (c .before .before .before .receive-check .ensures) (c .before .message .given .1) .within
+
+enum-known-why : tie.Need-enum-known-why
+enum-known-why c = search needs
+
+numbers-requires : tie.Need-numbers-requires
+numbers-requires c κs = search needs
+
+cast-t15 : tie.Need-cast-t15
+cast-t15 c = search needs
+
+returns : tie.Need-returns
+unfolding receivedFor
+returns c = rw (← (c .before .before .before .receive-check .ensures), c .before .message .given .1)
+
+returns-2 : tie.Need-returns-2
+unfolding receivedFor
+returns-2 c = rw (c .before .before .numbers .ensures, ← (c .before .before .before .before .before .before .receive-check .ensures), c .before .before .before .before .why .given .1, refusal-numbered)
+
+pub brothladder-receive-spec : {M : Type 1} → statement M
+brothladder-receive-spec =
+    tie.close
+    (tie.spec
+    receive-check-requires
+    enum-known-message
+    sub-t14
+    enum-known-why
+    numbers-requires
+    cast-t15
+    returns
+    returns-2)
