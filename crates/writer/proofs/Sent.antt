@@ -14,8 +14,8 @@ use Rattle.wire.proofs.Laws.{join16}
 use Rattle.icmpv6_type.specs.declared.Icmpv6Type.{Icmpv6Type}
 use Rattle.icmpv6_type.specs.Value.{typeTold}
 use Rattle.icmpv6_type.specs.Reserved.{Fits, misnamed}
-use Rattle.icmpv6.specs.Head.{decodeOf, checksumAt}
-use Rattle.icmpv6.proofs.RoundTrip.{clearedHead, read-write, write-read}
+use Rattle.icmpv6.specs.Head.{decodeOf, checksumAt, clearedHead}
+use Rattle.icmpv6.proofs.RoundTrip.{read-write, write-read}
 use Rattle.checksum.specs.Running.{Bytes}
 use Rattle.checksum.specs.Icmpv6.{checksumOf, verdictOf, valid}
 use Rattle.checksum.proofs.Sums.{below-append, below-set}
