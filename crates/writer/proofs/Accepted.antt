@@ -63,7 +63,7 @@ module _ (t : Icmpv6Type) (s out v : List ℕ) where
       by false false e f q = elim (decLe (fixedLen (kindNumber t)) (length s)) [
         | yes h ↦
             let w = walked (walk (optionsOf t s) .ending) refl (rw (whole (kindNumber t) s h) at q) in
-            record { named = e; within = ltb-false 65527 (length s) f; present = h; walks = w .0; room = w .1 }
+            record { named = e; within = ltb-false 65527 (length s) f; present = h; walks = w .0; room = omega (arith, w .1) }
         | no h ↦ never {p = refuses 4 (fixedLen (kindNumber t) ∷ length s ∷ [])} (lit< tt) (rw (short (kindNumber t) s (omega arith)) at q)
       ]
 
