@@ -38,18 +38,18 @@ module _ (source destination : List ℕ) (t : Icmpv6Type) (payload : List ℕ) w
   unfolding computedOf
   calc-refuses long = rw (lt-ltb payloadLimit (length payload) long)
 
-module _ {source destination payload : List ℕ} (t : Icmpv6Type) (fits : Fits t) (hs : Bytes source) (hd : Bytes destination) (hp : Bytes payload) (room : length payload ≤ payloadLimit) where
-  -- the header of that value with that checksum
-  validates : (h : Icmpv6Header) → headerTold h ≡ sum source destination t payload ∷ typeTold t → verdictOf source destination (encodeOf h ++ payload) ≡ valid
-  validates h e =
+module _ {source destination payload : List ℕ} (hs : Bytes source) (hd : Bytes destination) (hp : Bytes payload) (room : length payload ≤ payloadLimit) where
+  -- the header of a value with its checksum
+  validates : (t : Icmpv6Type) → Fits t → (h : Icmpv6Header) → headerTold h ≡ sum source destination t payload ∷ typeTold t → verdictOf source destination (encodeOf h ++ payload) ≡ valid
+  validates t fits h e =
       ap (λ (d : Icmpv6Header). verdictOf source destination (encodeOf d ++ payload)) (header-lossless h (record { «icmp_type» = t; checksum = sum source destination t payload }) e)
       ∙ sums.sent-validates hs hd (head-bytes t fits) hp (eight t 0) room
 
   -- `with_checksum` and `to_header`: what they hand out validates
-  pub made-validates : (h : Icmpv6Header) → made (Header h) ≡ withOf source destination t payload → verdictOf source destination (encodeOf h ++ payload) ≡ valid
-  made-validates h e = validates h (ap (λ (p : Paper). p .values) (e ∙ with-gives source destination t payload room))
+  pub made-validates : (t : Icmpv6Type) → Fits t → (h : Icmpv6Header) → made (Header h) ≡ withOf source destination t payload → verdictOf source destination (encodeOf h ++ payload) ≡ valid
+  made-validates t fits h e = validates t fits h (ap (λ (p : Paper). p .values) (e ∙ with-gives source destination t payload room))
 
-  -- `update_checksum`: a lent header of the value validates afterwards, whatever its field held
-  pub updated-validates : (old h : Icmpv6Header) → old .«icmp_type» ≡ t → headerTold h ≡ leaves (calcOf source destination t payload) (headerTold old)
+  -- `update_checksum`: a lent header validates afterwards, whatever its field held
+  pub updated-validates : (old h : Icmpv6Header) → Fits (old .«icmp_type») → headerTold h ≡ leaves (calcOf source destination (old .«icmp_type») payload) (headerTold old)
       → verdictOf source destination (encodeOf h ++ payload) ≡ valid
-  updated-validates old h same e = validates h (rw (calc-gives source destination t payload room, same) at e)
+  updated-validates old h fits e = validates (old .«icmp_type») fits h (rw (calc-gives source destination (old .«icmp_type») payload room) at e)

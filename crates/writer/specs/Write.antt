@@ -57,7 +57,7 @@ abbrev pub sendableTold : Sendable → Paper
 sendableTold Yes = gives []
 sendableTold (Refused why) = refusal why
 
--- what the output then holds, by the answer: of the length that is told the packet, and behind it what stood there; all as it was where it refuses
+-- what the output then holds, by the answer: the packet, whose length is told, and behind it what stood there; where it refuses, all as it was
 abbrev pub Holds : Written → List ℕ → List ℕ → List ℕ → Type 0
 Holds (output.To n) packet before after = (n ≡ length packet) × (take n after ≡ packet) × (drop n after ≡ drop n before)
 Holds (output.Refused why) packet before after = after ≡ before
