@@ -8,7 +8,7 @@ use mathlib.Core.Bool.{false}
 use mathlib.Core.Path.{_≡_, sym, ap, _∙_}
 use mathlib.Core.List.{List, [], _∷_, _++_}
 use lib.Dec.{lit<}
-use lib.ListN.{length, take, drop, length-append}
+use lib.ListN.{length, drop, length-append}
 use lib.Seq.{drop-at, drop-append-seam, take-append-seam}
 use Rattle.paper.specs.Paper.{gives, value}
 use Rattle.wire.proofs.Laws.{join16}
