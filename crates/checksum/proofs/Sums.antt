@@ -17,6 +17,12 @@ pub below-of : {m : ℕ} (xs : List ℕ) → ((i : ℕ) → getD xs i 0 < m) →
 below-of [] h = none
 below-of (x ∷ xs) h = more (h 0) (below-of xs (λ i. h (suc i)))
 
+-- and back, with the 0 that stands for an element past the end
+pub below-at : {m : ℕ} {xs : List ℕ} → 0 < m → Below m xs → (i : ℕ) → getD xs i 0 < m
+below-at z none i = z
+below-at z (more p h) zero = p
+below-at z (more p h) (suc i) = below-at z h i
+
 pub below-set : {m : ℕ} {xs : List ℕ} {v : ℕ} (i : ℕ) → Below m xs → v < m → Below m (set xs i v)
 below-set i none k = none
 below-set zero (more p h) k = more k h

@@ -12,15 +12,11 @@ use Rattle.wire.proofs.Laws.{join16, high16, low16}
 use Rattle.packet_length.specs.Length.{limit}
 use Rattle.packet_length.proofs.Laws.{sized-fits}
 use Rattle.icmpv6_type.specs.Value.{typeOf, typeNumber, codeNumber, fieldBytes}
-use Rattle.icmpv6_type.specs.Reserved.{cleared, Fits, misnamed}
+use Rattle.icmpv6_type.specs.Reserved.{Fits, misnamed}
 use Rattle.icmpv6_type.proofs.Laws.{four-bytes}
 use Rattle.icmpv6_type.proofs.RoundTrip as value
 use Rattle.icmpv6.specs.declared.icmpv6_header.Icmpv6Header.{Icmpv6Header}
-use Rattle.icmpv6.specs.Head.{decodeOf, encodeOf, headerTold, fieldsAt, checksumAt}
-
--- the head of a packet without its reserved bits
-abbrev pub clearedHead : List ℕ → List ℕ
-clearedHead p = getD p 0 0 ∷ getD p 1 0 ∷ getD p 2 0 ∷ getD p 3 0 ∷ cleared (getD p 0 0) (getD p 1 0) (fieldsAt p)
+use Rattle.icmpv6.specs.Head.{decodeOf, encodeOf, headerTold, fieldsAt, checksumAt, clearedHead}
 
 module _ (p : List ℕ) (low : 8 ≤ length p) (high : length p ≤ limit) (bytes : (i : ℕ) → getD p i 0 < 256) where
   pub read-write : (h : Icmpv6Header) → gives (headerTold h) ≡ decodeOf p → encodeOf h ≡ clearedHead p

@@ -8,6 +8,7 @@ use Rattle.refusal.specs.Paper.{refusal}
 use Rattle.wire.specs.Wire.{word16At, word32At, bytes16}
 use Rattle.packet_length.specs.Length.{sized}
 use Rattle.icmpv6_type.specs.Value.{typeOf, typeTold, typeNumber, codeNumber, fieldBytes}
+use Rattle.icmpv6_type.specs.Reserved.{cleared}
 use Rattle.icmpv6.specs.declared.icmpv6_header.Icmpv6Header.{Icmpv6Header}
 use Rattle.icmpv6.specs.declared.icmpv6_header.HeaderRead.{HeaderRead}
 use Rattle.icmpv6.specs.declared.icmpv6_header.HeaderRead.the-variants as read
@@ -24,6 +25,10 @@ checksumAt p = word16At p 2
 -- the header at the start of a packet: the checksum field, and the value of the rest
 unfoldable pub decodeOf : List ℕ → Paper
 decodeOf p = sized (length p) (gives (checksumAt p ∷ typeOf (getD p 0 0) (getD p 1 0) (fieldsAt p)))
+
+-- the head of a packet without its reserved bits
+abbrev pub clearedHead : List ℕ → List ℕ
+clearedHead p = getD p 0 0 ∷ getD p 1 0 ∷ getD p 2 0 ∷ getD p 3 0 ∷ cleared (getD p 0 0) (getD p 1 0) (fieldsAt p)
 
 -- type, code, checksum field, bytes 4 to 7
 unfoldable pub partsOf : List ℕ → Paper

@@ -67,7 +67,7 @@ module _ (p q r s : ℕ) (hp : p < 256) (hq : q < 256) (hr : r < 256) (hs : s < 
   -- demand 2, the head: what is read of a type, a code and bytes 4 to 7 is written as the same type and code, and those bytes without
   -- their reserved bits
   module _ (k c : ℕ) where
-    by-table : (b : Bool) → known k c ≡ b → Written (typeFrom (typeOf k c four)) k c (cleared k c four)
+    pub by-table : (b : Bool) → known k c ≡ b → Written (typeFrom (typeOf k c four)) k c (cleared k c four)
     by-table true e = rw (as-known k c four e) (known-written (view k c e))
     by-table false e = rw (as-unknown k c four e, e) (refl, refl, word)
 

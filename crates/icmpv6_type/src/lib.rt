@@ -56,16 +56,19 @@ impl Icmpv6Type {
         match type_u8 {
             1 => match DestUnreachableCode::from_u8(code_u8) {
                 DestUnreachableListing::Listed(code) => Icmpv6Type::DestinationUnreachable(code),
+                // Never: the table has no other code of this type.
                 DestUnreachableListing::NotListed => other,
             },
             2 => Icmpv6Type::PacketTooBig { mtu: all },
             3 => match TimeExceededCode::from_u8(code_u8) {
                 TimeExceededListing::Listed(code) => Icmpv6Type::TimeExceeded(code),
+                // Never: the table has no other code of this type.
                 TimeExceededListing::NotListed => other,
             },
             4 => match ParameterProblemCode::from_u8(code_u8) {
                 ParameterProblemListing::Listed(code) =>
                     Icmpv6Type::ParameterProblem(ParameterProblemHeader { code, pointer: all }),
+                // Never: the table has no other code of this type.
                 ParameterProblemListing::NotListed => other,
             },
             128 => Icmpv6Type::EchoRequest(IcmpEchoHeader::from_bytes(bytes5to8)),
@@ -79,6 +82,7 @@ impl Icmpv6Type {
                 bytes5to8,
             )),
             137 => Icmpv6Type::Redirect,
+            // Never: the table has no other type.
             _ => other,
         }
     }

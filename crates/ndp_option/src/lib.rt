@@ -17,6 +17,7 @@ fn part(read: NdpOptionRead, slice: &[u8], from: usize) -> &[u8]
             if from <= slice.len() {
                 &slice[from..]
             } else {
+                // Never: an option that is accepted has eight bytes, and no part begins behind them.
                 &slice[..0]
             }
         }

@@ -1,4 +1,5 @@
--- What the writer accepts has passed every test: from a length that is answered follows what the theorems on what is sent ask.
+-- The writer writes just where every test passes: from a length that is answered follows what each asks, and where each is met the length of the
+-- packet is answered.
 -- Assumes nothing.
 use Prim.Native.Nat.{ℕ, _+_, _<_, _≤_}
 use native.Mathlib.Omega.{arith}
@@ -26,13 +27,8 @@ use Rattle.ndp_option_list.specs.Whole.{countOf, endBy}
 use Rattle.output.specs.Output.{roomFor}
 use Rattle.output.proofs.Fitting.{narrow}
 use Rattle.writer.specs.Write.{_orElse_, optionsOf, sendableOf, writeOf}
-
-pub record Accepted (t : Icmpv6Type) (s out : List ℕ) : Type 0 where
-  pub named : misnamed t ≡ false
-  pub within : length s ≤ 65527
-  pub present : fixedLen (kindNumber t) ≤ length s
-  pub walks : walk (optionsOf t s) .ending ≡ Clean
-  pub room : 8 + length s ≤ length out
+use Rattle.writer.specs.Accepted.{Accepted}
+use Rattle.writer.proofs.Laws.{rest, fitting}
 
 -- a number that refuses is none of an answer
 never : {A : Type 0} {p : Paper} {v : List ℕ} → 0 < p .number → p ≡ gives v → A
@@ -67,6 +63,12 @@ module _ (t : Icmpv6Type) (s out v : List ℕ) where
       by false false e f q = elim (decLe (fixedLen (kindNumber t)) (length s)) [
         | yes h ↦
             let w = walked (walk (optionsOf t s) .ending) refl (rw (whole (kindNumber t) s h) at q) in
-            record { named = e; within = ltb-false 65527 (length s) f; present = h; walks = w .0; room = w .1 }
+            record { named = e; within = ltb-false 65527 (length s) f; present = h; walks = w .0; room = omega (arith, w .1) }
         | no h ↦ never {p = refuses 4 (fixedLen (kindNumber t) ∷ length s ∷ [])} (lit< tt) (rw (short (kindNumber t) s (omega arith)) at q)
       ]
+
+-- and it writes whatever is so
+pub writes : (t : Icmpv6Type) (s out : List ℕ) → Accepted t s out → writeOf t s out ≡ gives ((8 + length s) ∷ [])
+writes t s out ok =
+    let passed : sendableOf t s ≡ gives [] = rest t s (ok .named) (ok .within) ∙ rw (whole (kindNumber t) s (ok .present), ok .walks) in
+    fitting t s out (sym passed) (ok .room)

@@ -1,5 +1,4 @@
--- The order of the writer's tests and what it leaves in the output, by computation: one table, one statement. A writer that writes nothing fails
--- the first case.
+-- The order of the writer's tests and what it leaves in the output, by computation: one table, one statement.
 -- Assumes nothing.
 use Prim.Native.Nat.{ℕ}
 use mathlib.Core.Path.{_≡_, refl}

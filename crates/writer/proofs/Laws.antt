@@ -61,7 +61,7 @@ module _ (t : Icmpv6Type) (s : List ℕ) where
     long h = rw (named, lt-ltb 65527 (length s) h)
 
     module _ (some : length s ≤ 65527) where
-      rest : sendableOf t s ≡ (byValue t s orElse (countOf (optionsOf t s) .paper orElse gives []))
+      pub rest : sendableOf t s ≡ (byValue t s orElse (countOf (optionsOf t s) .paper orElse gives []))
       unfolding sendableOf
       rest = rw (named, le-ltb 65527 (length s) some)
 

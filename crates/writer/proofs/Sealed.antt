@@ -3,9 +3,9 @@
 use Prim.Native.Nat.{ℕ, _≤_}
 use native.Mathlib.Omega.{arith}
 use mathlib.Core.Path.{_≡_, ap, _∙_}
-use mathlib.Core.List.{List, [], _∷_, _++_}
+use mathlib.Core.List.{List, _∷_, _++_}
 use lib.ListN.{length}
-use borrow.Author.Tests.{le-ltb, eqb-false}
+use borrow.Author.Tests.{eqb-false}
 use Rattle.paper.specs.Paper.{Paper, gives}
 use Rattle.refusal.specs.declared.Refusal.{Refusal}
 use Rattle.refusal.specs.Paper.{refusal}
@@ -15,17 +15,14 @@ use Rattle.icmpv6_type.specs.Value.{typeTold}
 use Rattle.icmpv6.specs.declared.icmpv6_header.Icmpv6Header.{Icmpv6Header}
 use Rattle.icmpv6.specs.Head.{encodeOf, headerTold}
 use Rattle.icmpv6.proofs.Paper.{header-lossless}
-use Rattle.checksum.specs.Icmpv6.{checksumOf, payloadLimit, computedOf}
+use Rattle.checksum.specs.Icmpv6.{checksumOf}
 use Rattle.icmpv6_checksum.specs.Header.{headOf, withOf}
+use Rattle.icmpv6_checksum.proofs.Validity.{with-gives}
 use Rattle.writer.specs.Write.{sealedHead}
 
 module _ (source destination : List ℕ) (t : Icmpv6Type) (payload : List ℕ) (room : length payload ≤ 65527) where
-  computed : computedOf source destination (headOf t) payload ≡ gives (checksumOf source destination (headOf t ++ payload) ∷ [])
-  unfolding computedOf
-  computed = let l : length payload ≤ payloadLimit = omega arith in rw (le-ltb payloadLimit (length payload) l)
-
   made : withOf source destination t payload ≡ gives (checksumOf source destination (headOf t ++ payload) ∷ typeTold t)
-  made = rw computed
+  made = with-gives source destination t payload (omega arith)
 
   pub sealed : (h : Icmpv6Header) → gives (headerTold h) ≡ withOf source destination t payload → encodeOf h ≡ sealedHead source destination t payload
   sealed h e =

@@ -1,30 +1,35 @@
 -- What the writer writes: the value decodes again, the packet validates under the same addresses, its checksum is that of the very bytes that
--- stand in the output, and no reserved bit is among them. The premises say that the numbers of the value fit their fields and bytes are below
--- 256, as their types have it.
+-- stand in the output, and no reserved bit is among them. In the output it stands at the start, and all else is as it was. The premises say that
+-- the numbers of the value fit their fields and bytes are below 256, as their types have it.
 -- Assumes nothing.
 use Prim.Native.Nat.{ℕ, _+_, _/_, _%_, _<_, _≤_}
 use native.Mathlib.Omega.{arith}
 use mathlib.Core.Bool.{false}
 use mathlib.Core.Path.{_≡_, sym, ap, _∙_}
 use mathlib.Core.List.{List, [], _∷_, _++_}
-use lib.ListN.{length, take, drop, length-append}
+use lib.Dec.{lit<}
+use lib.ListN.{length, drop, length-append}
 use lib.Seq.{drop-at, drop-append-seam, take-append-seam}
-use Rattle.paper.specs.Paper.{gives}
+use Rattle.paper.specs.Paper.{gives, value}
 use Rattle.wire.proofs.Laws.{join16}
 use Rattle.icmpv6_type.specs.declared.Icmpv6Type.{Icmpv6Type}
 use Rattle.icmpv6_type.specs.Value.{typeTold}
 use Rattle.icmpv6_type.specs.Reserved.{Fits, misnamed}
-use Rattle.icmpv6.specs.Head.{decodeOf, checksumAt}
-use Rattle.icmpv6.proofs.RoundTrip.{clearedHead, read-write, write-read}
+use Rattle.icmpv6.specs.Head.{decodeOf, checksumAt, clearedHead}
+use Rattle.icmpv6.proofs.RoundTrip.{read-write, write-read}
 use Rattle.checksum.specs.Running.{Bytes}
 use Rattle.checksum.specs.Icmpv6.{checksumOf, verdictOf, valid}
-use Rattle.checksum.proofs.Sums.{below-append, below-set}
+use Rattle.checksum.proofs.Sums.{below-append, below-set, below-at}
 use Rattle.checksum.proofs.Validity.{sent-validates}
 use Rattle.icmpv6_checksum.specs.Header.{headOf}
-use Rattle.output.specs.Output.{leaves}
+use Rattle.icmpv6_checksum.proofs.Bytes.{head-bytes, eight}
+use Rattle.output.specs.declared.Written.{Written}
+use Rattle.output.specs.declared.Written.the-variants.{To, Refused}
+use Rattle.output.specs.Output.{writtenTold, leaves}
 use Rattle.output.proofs.Wrote.{over-start}
-use Rattle.writer.specs.Write.{sealedHead, packetOf}
-use Rattle.writer.proofs.Bytes.{head-bytes, byte-at, eight}
+use Rattle.writer.specs.Write.{writeOf, sealedHead, packetOf, Holds}
+use Rattle.writer.proofs.Laws.{refused-leaves}
+use Rattle.writer.proofs.Accepted.{accepted, writes}
 
 -- the computed checksum is of 16 bits
 small : (source destination packet : List ℕ) → checksumOf source destination packet < 65536
@@ -63,7 +68,7 @@ module _ (source destination : List ℕ) (t : Icmpv6Type) (payload : List ℕ) w
       pub reserved-cleared : clearedHead packet ≡ sealedHead source destination t payload
       reserved-cleared =
           sym
-          (read-write packet (omega (arith, length-is)) (omega (arith, length-is)) (byte-at (below-append head-is hp))
+          (read-write packet (omega (arith, length-is)) (omega (arith, length-is)) (below-at (lit< tt) (below-append head-is hp))
           (record { «icmp_type» = t; checksum = sum }) (sym decodes))
 
       -- and it validates under the same addresses
@@ -71,10 +76,13 @@ module _ (source destination : List ℕ) (t : Icmpv6Type) (payload : List ℕ) w
         pub validates : verdictOf source destination packet ≡ valid
         validates = sent-validates hs hd (head-bytes t fits) hp (eight t 0) (omega arith)
 
--- the output: at its start the packet, and behind it what stood there; a refusal leaves it as it was
-module _ (bytes out : List ℕ) where
-  pub start-is : take (length bytes) (leaves (gives (length bytes ∷ [])) out 0 bytes) ≡ bytes
-  start-is = rw (over-start out bytes) (take-append-seam bytes (drop (length bytes) out))
-
-  pub rest-is : drop (length bytes) (leaves (gives (length bytes ∷ [])) out 0 bytes) ≡ drop (length bytes) out
-  rest-is = rw (over-start out bytes) (drop-append-seam bytes (drop (length bytes) out))
+-- what `write_packet` leaves in the output, by its answer
+module _ (source destination : List ℕ) (t : Icmpv6Type) (payload out left : List ℕ) (lent : left ≡ leaves (writeOf t payload out) out 0 (packetOf source destination t payload)) where
+  pub sent : (r : Written) → writtenTold r ≡ writeOf t payload out → Holds r (packetOf source destination t payload) out left
+  sent (To n) e =
+      let bytes = packetOf source destination t payload in
+      let ok = accepted t payload out (n ∷ []) (sym e) in
+      let told : n ≡ length bytes = ap (value 0) (e ∙ writes t payload out ok) ∙ sym (length-is source destination t payload) in
+      let holds : left ≡ bytes ++ drop (length bytes) out = lent ∙ rw (← e) (over-start out bytes) in
+      (told, rw (told, holds) (take-append-seam bytes (drop (length bytes) out)), rw (told, holds) (drop-append-seam bytes (drop (length bytes) out)))
+  sent (Refused why) e = lent ∙ rw (← e) (sym (refused-leaves why out (packetOf source destination t payload)))

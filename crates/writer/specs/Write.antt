@@ -3,9 +3,10 @@
 -- Assumes nothing.
 use Prim.Native.Nat.{ℕ, _+_}
 use mathlib.Core.Bool.{cond}
+use mathlib.Core.Path.{_≡_}
 use mathlib.Core.List.{List, [], _∷_, _++_}
 use lib.Dec.{ltb, eqb}
-use lib.ListN.{length}
+use lib.ListN.{length, take, drop}
 use Rattle.paper.specs.Paper.{Paper, refuses, gives}
 use Rattle.refusal.specs.Paper.{refusal}
 use Rattle.message_table.specs.Table.{fixedLen}
@@ -18,6 +19,8 @@ use Rattle.icmpv6_checksum.specs.Header.{headOf}
 use Rattle.icmpv6_payload_slice.specs.Dispatch.{byValue}
 use Rattle.icmpv6_payload_slice.specs.Parts.{optionsPart}
 use Rattle.ndp_option_list.specs.Whole.{countOf}
+use Rattle.output.specs.declared.Written.{Written}
+use Rattle.output.specs.declared.Written.the-variants as output
 use Rattle.output.specs.Output.{roomFor}
 use Rattle.writer.specs.declared.Sendable.{Sendable}
 use Rattle.writer.specs.declared.Sendable.the-variants.{Yes, Refused}
@@ -53,3 +56,8 @@ packetOf source destination t payload = sealedHead source destination t payload 
 abbrev pub sendableTold : Sendable → Paper
 sendableTold Yes = gives []
 sendableTold (Refused why) = refusal why
+
+-- what the output then holds, by the answer: the packet, whose length is told, and behind it what stood there; where it refuses, all as it was
+abbrev pub Holds : Written → List ℕ → List ℕ → List ℕ → Type 0
+Holds (output.To n) packet before after = (n ≡ length packet) × (take n after ≡ packet) × (drop n after ≡ drop n before)
+Holds (output.Refused why) packet before after = after ≡ before

@@ -1,10 +1,8 @@
 // The packet writer (document 01, "Numbers a refusal carries"): a type value, both addresses and a payload, into a lent buffer.
 ghost use mathlib.Core.Path.{_≡_};
-ghost use Prim.Native.Nat.{_≤_};
-ghost use lib.ListN.{length};
 ghost use Rattle.icmpv6_type.specs.Reserved.{misnamed};
 ghost use Rattle.output.specs.Output.{writtenTold, leaves};
-ghost use Rattle.writer.specs.Write.{sendableTold, sendableOf, sealedHead, packetOf, writeOf};
+ghost use Rattle.writer.specs.Write.{sendableTold, sendableOf, packetOf, writeOf};
 use icmpv6_checksum::HeaderMade;
 use icmpv6_payload_slice::Icmpv6PayloadSlice;
 use icmpv6_payload_slice::PayloadRead;
@@ -61,23 +59,6 @@ fn check(icmp_type: Icmpv6Type, payload: &[u8]) -> Sendable
     }
 }
 
-// The eight bytes of the head with the computed checksum.
-fn sealed_head(
-    icmp_type: Icmpv6Type,
-    source: &[u8; 16],
-    destination: &[u8; 16],
-    payload: &[u8],
-) -> [u8; 8]
-    requires { ⌜ length (now payload) ≤ 65527 ⌝ }
-    ensures { λ r. ⌜ r ≡ sealedHead (now (source .entry)) (now (destination .entry)) «icmp_type» (now (payload .entry)) ⌝ }
-{
-    match icmpv6_checksum::with_checksum(icmp_type, payload, source, destination) {
-        HeaderMade::Header(header) => header.to_bytes(),
-        // Never: the payload is within the sum's limit.
-        HeaderMade::Refused(_) => [0; 8],
-    }
-}
-
 // Writes a packet at the start of the output and answers its length; a refusal leaves every byte as it was.
 pub fn write_packet(
     icmp_type: Icmpv6Type,
@@ -96,9 +77,15 @@ pub fn write_packet(
             if out.len() < needed {
                 return Written::Refused(Refusal::ShortOutput { needed });
             }
-            let head = sealed_head(icmp_type, source, destination, payload);
-            output::put(out, 0, &head);
-            output::put(out, 8, payload)
+            match icmpv6_checksum::with_checksum(icmp_type, payload, source, destination) {
+                HeaderMade::Header(header) => {
+                    let head = header.to_bytes();
+                    output::put(out, 0, &head);
+                    output::put(out, 8, payload)
+                }
+                // Never: the payload is within the sum's limit.
+                HeaderMade::Refused(why) => Written::Refused(why),
+            }
         }
     }
 }

@@ -1,11 +1,11 @@
 -- The head of a value whose numbers fit their fields is eight bytes.
 -- Assumes nothing.
-use Prim.Native.Nat.{ℕ, zero, suc, _+_, _/_, _%_, _<_}
+use Prim.Native.Nat.{ℕ, suc, _+_, _/_, _%_}
 use native.Mathlib.Omega.{arith}
 use mathlib.Core.Path.{_≡_, sym, ap}
 use mathlib.Core.List.{List}
 use lib.Dec.{lit<}
-use lib.ListN.{length, getD}
+use lib.ListN.{length}
 use Rattle.wire.specs.Wire.{bytes16, bytes32, flagOf}
 use Rattle.icmpv6_codes.specs.Codes.{destNumber, timeNumber, problemNumber}
 use Rattle.wire.proofs.Laws.{flag-within}
@@ -45,12 +45,6 @@ head-bytes (RouterAdvertisement h) f = more (lit< tt) (more (lit< tt) (more (lit
 head-bytes NeighborSolicitation f = more (lit< tt) (more (lit< tt) (more (lit< tt) (more (lit< tt) (zeros))))
 head-bytes (NeighborAdvertisement h) f = more (lit< tt) (more (lit< tt) (more (lit< tt) (more (lit< tt) (more {x = flagOf (h .router) 128 + flagOf (h .solicited) 64 + flagOf (h .«override_flag») 32} (omega (arith, flag-within (h .router) 128, flag-within (h .solicited) 64, flag-within (h .«override_flag») 32)) (more (lit< tt) (more (lit< tt) (more (lit< tt) none)))))))
 head-bytes Redirect f = more (lit< tt) (more (lit< tt) (more (lit< tt) (more (lit< tt) (zeros))))
-
--- a byte of a list of bytes, and the 0 that stands for one past its end
-pub byte-at : {s : List ℕ} → Bytes s → (i : ℕ) → getD s i 0 < 256
-byte-at none i = lit< tt
-byte-at (more h r) zero = h
-byte-at (more h r) (suc i) = byte-at r i
 
 pub eight : (t : Icmpv6Type) (n : ℕ) → length (encodeOf (record { «icmp_type» = t; checksum = n })) ≡ 8
 eight t n = ap (λ (l : List ℕ). suc (suc (suc (suc (length l))))) (sym (four-bytes t))

@@ -1,0 +1,21 @@
+-- What the writer asks of a value, a payload and an output: no more and no less.
+-- Assumes nothing.
+use Prim.Native.Nat.{ℕ, _+_, _≤_}
+use mathlib.Core.Bool.{false}
+use mathlib.Core.Path.{_≡_}
+use mathlib.Core.List.{List}
+use lib.ListN.{length}
+use Rattle.message_table.specs.Table.{fixedLen}
+use Rattle.icmpv6_type.specs.declared.Icmpv6Type.{Icmpv6Type}
+use Rattle.icmpv6_type.specs.Value.{kindNumber}
+use Rattle.icmpv6_type.specs.Reserved.{misnamed}
+use Rattle.ndp_walk.specs.Walk.{Clean}
+use Rattle.ndp_options.specs.Walk.{walk}
+use Rattle.writer.specs.Write.{optionsOf}
+
+pub record Accepted (t : Icmpv6Type) (s out : List ℕ) : Type 0 where
+  pub named : misnamed t ≡ false
+  pub within : length s ≤ 65527
+  pub present : fixedLen (kindNumber t) ≤ length s
+  pub walks : walk (optionsOf t s) .ending ≡ Clean
+  pub room : 8 + length s ≤ length out
