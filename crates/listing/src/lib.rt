@@ -126,6 +126,7 @@ fn reason_of(packet: &[u8], hop_limit: u8, source: &[u8; 16], destination: &[u8;
 {
     match receive::receive_check(packet, hop_limit, source, destination) {
         Received::Accepted => 0,
+        // Never another number than 11: the packet's head was read.
         Received::Refused(why) => { if why.number() == 11 { why.value(0) } else { 0 } }
     }
 }
