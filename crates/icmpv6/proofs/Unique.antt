@@ -7,6 +7,7 @@ use Rattle.paper.proofs.Facts.{one}
 use Rattle.icmpv6.proofs.Paper.{header-lossless, read-lossless, parts-lossless}
 use Rattle.icmpv6.proofs.icmpv6_header.Icmpv6Header.new as new
 use Rattle.icmpv6.proofs.icmpv6_header.Icmpv6Header.from_slice as from-slice
+use Rattle.icmpv6.proofs.icmpv6_header.Icmpv6Header.header_len as header-len
 use Rattle.icmpv6.proofs.icmpv6_header.Icmpv6Header.to_bytes as to-bytes
 use Rattle.icmpv6.proofs.icmpv6_slice.head_parts as head-parts
 use Rattle.icmpv6.proofs.icmpv6_slice.payload as payload
@@ -16,6 +17,9 @@ new-unique M 𝓤 H A m f κs a g x y v w = one 𝓤 (λ p q. (header-lossless x
 
 pub from-slice-unique : Only from-slice.ended (λ M 𝓤. from-slice.clauses 𝓤)
 from-slice-unique M 𝓤 H A m f κs a g x y v w = one 𝓤 (λ p q. (read-lossless x y (p ∙ sym q), refl))
+
+pub header-len-unique : Only header-len.ended (λ M 𝓤. header-len.clauses 𝓤)
+header-len-unique M 𝓤 H A m f κs a g x y v w = one 𝓤 (λ p q. (p ∙ sym q, refl))
 
 pub to-bytes-unique : Only to-bytes.ended (λ M 𝓤. to-bytes.clauses 𝓤)
 to-bytes-unique M 𝓤 H A m f κs a g x y v w = one 𝓤 (λ p q. (p ∙ sym q, refl))

@@ -1,6 +1,7 @@
 // The header record: the type value and the checksum field.
 ghost use mathlib.Core.Path.{_≡_};
 ghost use mathlib.Core.List.{_∷_};
+ghost use lib.ListN.{length};
 ghost use Rattle.icmpv6_type.specs.Value.{typeTold};
 ghost use Rattle.icmpv6.specs.Head.{headerTold, readTold, decodeOf, encodeOf};
 use icmpv6_type::Icmpv6Type;
@@ -18,6 +19,11 @@ pub enum HeaderRead {
 }
 
 impl Icmpv6Header {
+    // Every header that is known has eight bytes. The crate keeps room for longer ones, and so may whoever lends a buffer by this constant.
+    pub const MIN_LEN: usize = packet_length::MIN_LEN;
+
+    pub const MAX_LEN: usize = 40;
+
     // A header whose checksum is still to be set.
     pub fn new(icmp_type: Icmpv6Type) -> Self
         ensures { λ r. ⌜ headerTold r ≡ 0 ∷ typeTold «icmp_type» ⌝ }
@@ -42,6 +48,13 @@ impl Icmpv6Header {
                 })
             }
         }
+    }
+
+    // How many bytes the header is written as. What `from_slice` leaves of the packet is `icmpv6_slice::payload`.
+    pub fn header_len(self) -> usize
+        ensures { λ r. ⌜ r ≡ length (encodeOf self) ⌝ }
+    {
+        Icmpv6Header::MIN_LEN
     }
 
     // The eight bytes of the header; what is reserved is written 0.

@@ -2,6 +2,20 @@
 ghost use mathlib.Core.Path.{_≡_};
 ghost use Rattle.icmpv6_codes.specs.Codes.{listed, destNumber, destTold};
 
+pub const CODE_DST_UNREACH_NO_ROUTE: u8 = 0;
+
+pub const CODE_DST_UNREACH_PROHIBITED: u8 = 1;
+
+pub const CODE_DST_UNREACH_BEYOND_SCOPE: u8 = 2;
+
+pub const CODE_DST_UNREACH_ADDR: u8 = 3;
+
+pub const CODE_DST_UNREACH_PORT: u8 = 4;
+
+pub const CODE_DST_UNREACH_SOURCE_ADDRESS_FAILED_POLICY: u8 = 5;
+
+pub const CODE_DST_UNREACH_REJECT_ROUTE_TO_DEST: u8 = 6;
+
 pub enum DestUnreachableCode {
     NoRoute,
     Prohibited,
@@ -23,13 +37,17 @@ impl DestUnreachableCode {
         ensures { λ r. ⌜ destTold r ≡ listed 7 code ⌝ }
     {
         match code {
-            0 => DestUnreachableListing::Listed(DestUnreachableCode::NoRoute),
-            1 => DestUnreachableListing::Listed(DestUnreachableCode::Prohibited),
-            2 => DestUnreachableListing::Listed(DestUnreachableCode::BeyondScope),
-            3 => DestUnreachableListing::Listed(DestUnreachableCode::Address),
-            4 => DestUnreachableListing::Listed(DestUnreachableCode::Port),
-            5 => DestUnreachableListing::Listed(DestUnreachableCode::SourceAddressFailedPolicy),
-            6 => DestUnreachableListing::Listed(DestUnreachableCode::RejectRoute),
+            CODE_DST_UNREACH_NO_ROUTE => DestUnreachableListing::Listed(Self::NoRoute),
+            CODE_DST_UNREACH_PROHIBITED => DestUnreachableListing::Listed(Self::Prohibited),
+            CODE_DST_UNREACH_BEYOND_SCOPE => DestUnreachableListing::Listed(Self::BeyondScope),
+            CODE_DST_UNREACH_ADDR => DestUnreachableListing::Listed(Self::Address),
+            CODE_DST_UNREACH_PORT => DestUnreachableListing::Listed(Self::Port),
+            CODE_DST_UNREACH_SOURCE_ADDRESS_FAILED_POLICY => DestUnreachableListing::Listed(
+                Self::SourceAddressFailedPolicy,
+            ),
+            CODE_DST_UNREACH_REJECT_ROUTE_TO_DEST => DestUnreachableListing::Listed(
+                Self::RejectRoute,
+            ),
             _ => DestUnreachableListing::NotListed,
         }
     }
@@ -38,13 +56,14 @@ impl DestUnreachableCode {
         ensures { λ r. ⌜ r ≡ destNumber self ⌝ }
     {
         match self {
-            DestUnreachableCode::NoRoute => 0,
-            DestUnreachableCode::Prohibited => 1,
-            DestUnreachableCode::BeyondScope => 2,
-            DestUnreachableCode::Address => 3,
-            DestUnreachableCode::Port => 4,
-            DestUnreachableCode::SourceAddressFailedPolicy => 5,
-            DestUnreachableCode::RejectRoute => 6,
+            DestUnreachableCode::NoRoute => CODE_DST_UNREACH_NO_ROUTE,
+            DestUnreachableCode::Prohibited => CODE_DST_UNREACH_PROHIBITED,
+            DestUnreachableCode::BeyondScope => CODE_DST_UNREACH_BEYOND_SCOPE,
+            DestUnreachableCode::Address => CODE_DST_UNREACH_ADDR,
+            DestUnreachableCode::Port => CODE_DST_UNREACH_PORT,
+            DestUnreachableCode::SourceAddressFailedPolicy =>
+                CODE_DST_UNREACH_SOURCE_ADDRESS_FAILED_POLICY,
+            DestUnreachableCode::RejectRoute => CODE_DST_UNREACH_REJECT_ROUTE_TO_DEST,
         }
     }
 }

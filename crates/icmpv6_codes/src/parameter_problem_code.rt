@@ -2,6 +2,28 @@
 ghost use mathlib.Core.Path.{_≡_};
 ghost use Rattle.icmpv6_codes.specs.Codes.{listed, problemNumber, problemTold};
 
+pub const CODE_PARAM_PROBLEM_ERR_HEADER_FIELD: u8 = 0;
+
+pub const CODE_PARAM_PROBLEM_UNRECOG_NEXT_HEADER: u8 = 1;
+
+pub const CODE_PARAM_PROBLEM_UNRECOG_IPV6_OPTION: u8 = 2;
+
+pub const CODE_PARAM_PROBLEM_IPV6_FIRST_FRAG_INCOMP_HEADER_CHAIN: u8 = 3;
+
+pub const CODE_PARAM_PROBLEM_SR_UPPER_LAYER_HEADER_ERROR: u8 = 4;
+
+pub const CODE_PARAM_PROBLEM_UNRECOG_NEXT_HEADER_BY_INTERMEDIATE_NODE: u8 = 5;
+
+pub const CODE_PARAM_PROBLEM_EXT_HEADER_TOO_BIG: u8 = 6;
+
+pub const CODE_PARAM_PROBLEM_EXT_HEADER_CHAIN_TOO_LONG: u8 = 7;
+
+pub const CODE_PARAM_PROBLEM_TOO_MANY_EXT_HEADERS: u8 = 8;
+
+pub const CODE_PARAM_PROBLEM_TOO_MANY_OPTIONS_EXT_HEADER: u8 = 9;
+
+pub const CODE_PARAM_PROBLEM_OPTION_TOO_BIG: u8 = 10;
+
 pub enum ParameterProblemCode {
     ErroneousHeaderField,
     UnrecognizedNextHeader,
@@ -27,23 +49,37 @@ impl ParameterProblemCode {
         ensures { λ r. ⌜ problemTold r ≡ listed 11 code ⌝ }
     {
         match code {
-            0 => ParameterProblemListing::Listed(ParameterProblemCode::ErroneousHeaderField),
-            1 => ParameterProblemListing::Listed(ParameterProblemCode::UnrecognizedNextHeader),
-            2 => ParameterProblemListing::Listed(ParameterProblemCode::UnrecognizedIpv6Option),
-            3 => ParameterProblemListing::Listed(
-                ParameterProblemCode::FirstFragmentIncompleteHeaderChain,
+            CODE_PARAM_PROBLEM_ERR_HEADER_FIELD => ParameterProblemListing::Listed(
+                Self::ErroneousHeaderField,
             ),
-            4 => ParameterProblemListing::Listed(ParameterProblemCode::SrUpperLayerHeaderError),
-            5 => ParameterProblemListing::Listed(
-                ParameterProblemCode::UnrecognizedNextHeaderByIntermediateNode,
+            CODE_PARAM_PROBLEM_UNRECOG_NEXT_HEADER => ParameterProblemListing::Listed(
+                Self::UnrecognizedNextHeader,
             ),
-            6 => ParameterProblemListing::Listed(ParameterProblemCode::ExtensionHeaderTooBig),
-            7 => ParameterProblemListing::Listed(ParameterProblemCode::ExtensionHeaderChainTooLong),
-            8 => ParameterProblemListing::Listed(ParameterProblemCode::TooManyExtensionHeaders),
-            9 => ParameterProblemListing::Listed(
-                ParameterProblemCode::TooManyOptionsInExtensionHeader,
+            CODE_PARAM_PROBLEM_UNRECOG_IPV6_OPTION => ParameterProblemListing::Listed(
+                Self::UnrecognizedIpv6Option,
             ),
-            10 => ParameterProblemListing::Listed(ParameterProblemCode::OptionTooBig),
+            CODE_PARAM_PROBLEM_IPV6_FIRST_FRAG_INCOMP_HEADER_CHAIN =>
+                ParameterProblemListing::Listed(Self::FirstFragmentIncompleteHeaderChain),
+            CODE_PARAM_PROBLEM_SR_UPPER_LAYER_HEADER_ERROR => ParameterProblemListing::Listed(
+                Self::SrUpperLayerHeaderError,
+            ),
+            CODE_PARAM_PROBLEM_UNRECOG_NEXT_HEADER_BY_INTERMEDIATE_NODE =>
+                ParameterProblemListing::Listed(Self::UnrecognizedNextHeaderByIntermediateNode),
+            CODE_PARAM_PROBLEM_EXT_HEADER_TOO_BIG => ParameterProblemListing::Listed(
+                Self::ExtensionHeaderTooBig,
+            ),
+            CODE_PARAM_PROBLEM_EXT_HEADER_CHAIN_TOO_LONG => ParameterProblemListing::Listed(
+                Self::ExtensionHeaderChainTooLong,
+            ),
+            CODE_PARAM_PROBLEM_TOO_MANY_EXT_HEADERS => ParameterProblemListing::Listed(
+                Self::TooManyExtensionHeaders,
+            ),
+            CODE_PARAM_PROBLEM_TOO_MANY_OPTIONS_EXT_HEADER => ParameterProblemListing::Listed(
+                Self::TooManyOptionsInExtensionHeader,
+            ),
+            CODE_PARAM_PROBLEM_OPTION_TOO_BIG => ParameterProblemListing::Listed(
+                Self::OptionTooBig,
+            ),
             _ => ParameterProblemListing::NotListed,
         }
     }
@@ -52,17 +88,23 @@ impl ParameterProblemCode {
         ensures { λ r. ⌜ r ≡ problemNumber self ⌝ }
     {
         match self {
-            ParameterProblemCode::ErroneousHeaderField => 0,
-            ParameterProblemCode::UnrecognizedNextHeader => 1,
-            ParameterProblemCode::UnrecognizedIpv6Option => 2,
-            ParameterProblemCode::FirstFragmentIncompleteHeaderChain => 3,
-            ParameterProblemCode::SrUpperLayerHeaderError => 4,
-            ParameterProblemCode::UnrecognizedNextHeaderByIntermediateNode => 5,
-            ParameterProblemCode::ExtensionHeaderTooBig => 6,
-            ParameterProblemCode::ExtensionHeaderChainTooLong => 7,
-            ParameterProblemCode::TooManyExtensionHeaders => 8,
-            ParameterProblemCode::TooManyOptionsInExtensionHeader => 9,
-            ParameterProblemCode::OptionTooBig => 10,
+            ParameterProblemCode::ErroneousHeaderField => CODE_PARAM_PROBLEM_ERR_HEADER_FIELD,
+            ParameterProblemCode::UnrecognizedNextHeader => CODE_PARAM_PROBLEM_UNRECOG_NEXT_HEADER,
+            ParameterProblemCode::UnrecognizedIpv6Option => CODE_PARAM_PROBLEM_UNRECOG_IPV6_OPTION,
+            ParameterProblemCode::FirstFragmentIncompleteHeaderChain =>
+                CODE_PARAM_PROBLEM_IPV6_FIRST_FRAG_INCOMP_HEADER_CHAIN,
+            ParameterProblemCode::SrUpperLayerHeaderError =>
+                CODE_PARAM_PROBLEM_SR_UPPER_LAYER_HEADER_ERROR,
+            ParameterProblemCode::UnrecognizedNextHeaderByIntermediateNode =>
+                CODE_PARAM_PROBLEM_UNRECOG_NEXT_HEADER_BY_INTERMEDIATE_NODE,
+            ParameterProblemCode::ExtensionHeaderTooBig => CODE_PARAM_PROBLEM_EXT_HEADER_TOO_BIG,
+            ParameterProblemCode::ExtensionHeaderChainTooLong =>
+                CODE_PARAM_PROBLEM_EXT_HEADER_CHAIN_TOO_LONG,
+            ParameterProblemCode::TooManyExtensionHeaders =>
+                CODE_PARAM_PROBLEM_TOO_MANY_EXT_HEADERS,
+            ParameterProblemCode::TooManyOptionsInExtensionHeader =>
+                CODE_PARAM_PROBLEM_TOO_MANY_OPTIONS_EXT_HEADER,
+            ParameterProblemCode::OptionTooBig => CODE_PARAM_PROBLEM_OPTION_TOO_BIG,
         }
     }
 }

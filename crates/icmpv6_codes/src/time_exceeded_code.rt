@@ -2,6 +2,10 @@
 ghost use mathlib.Core.Path.{_≡_};
 ghost use Rattle.icmpv6_codes.specs.Codes.{listed, timeNumber, timeTold};
 
+pub const CODE_TIME_EXCEEDED_HOP_LIMIT_EXCEEDED: u8 = 0;
+
+pub const CODE_TIME_EXCEEDED_FRAGMENT_REASSEMBLY_TIME_EXCEEDED: u8 = 1;
+
 pub enum TimeExceededCode {
     HopLimitExceeded,
     FragmentReassemblyTimeExceeded,
@@ -18,8 +22,12 @@ impl TimeExceededCode {
         ensures { λ r. ⌜ timeTold r ≡ listed 2 code ⌝ }
     {
         match code {
-            0 => TimeExceededListing::Listed(TimeExceededCode::HopLimitExceeded),
-            1 => TimeExceededListing::Listed(TimeExceededCode::FragmentReassemblyTimeExceeded),
+            CODE_TIME_EXCEEDED_HOP_LIMIT_EXCEEDED => TimeExceededListing::Listed(
+                Self::HopLimitExceeded,
+            ),
+            CODE_TIME_EXCEEDED_FRAGMENT_REASSEMBLY_TIME_EXCEEDED => TimeExceededListing::Listed(
+                Self::FragmentReassemblyTimeExceeded,
+            ),
             _ => TimeExceededListing::NotListed,
         }
     }
@@ -28,8 +36,9 @@ impl TimeExceededCode {
         ensures { λ r. ⌜ r ≡ timeNumber self ⌝ }
     {
         match self {
-            TimeExceededCode::HopLimitExceeded => 0,
-            TimeExceededCode::FragmentReassemblyTimeExceeded => 1,
+            TimeExceededCode::HopLimitExceeded => CODE_TIME_EXCEEDED_HOP_LIMIT_EXCEEDED,
+            TimeExceededCode::FragmentReassemblyTimeExceeded =>
+                CODE_TIME_EXCEEDED_FRAGMENT_REASSEMBLY_TIME_EXCEEDED,
         }
     }
 }

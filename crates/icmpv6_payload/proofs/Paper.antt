@@ -2,14 +2,21 @@
 -- Assumes nothing.
 use Prim.Native.Nat.{ℕ}
 use mathlib.Core.Path.{_≡_, refl, ap, _∙_}
+use mathlib.Core.Bool.{cond}
 use mathlib.Core.List.{List}
+use lib.Dec.{eqb}
 use lib.ListN.{getD}
+use Rattle.paper.specs.Paper.{Paper}
 use Rattle.paper.proofs.Lossless.{lossless}
+use Rattle.refusal.proofs.Paper.{refusalOf, refusal-back, refusal-numbered}
+use Rattle.icmpv6_payload.specs.declared.FixedPart.{FixedPart}
+use Rattle.icmpv6_payload.specs.declared.FixedPart.the-variants.{Present, Refused}
 use Rattle.icmpv6_payload.specs.declared.neighbor_advertisement_payload.NeighborAdvertisementPayload.{NeighborAdvertisementPayload}
 use Rattle.icmpv6_payload.specs.declared.neighbor_solicitation_payload.NeighborSolicitationPayload.{NeighborSolicitationPayload}
 use Rattle.icmpv6_payload.specs.declared.redirect_payload.RedirectPayload.{RedirectPayload}
 use Rattle.icmpv6_payload.specs.declared.router_advertisement_payload.RouterAdvertisementPayload.{RouterAdvertisementPayload}
 use Rattle.icmpv6_payload.specs.Owned.{timersTold}
+use Rattle.icmpv6_payload.specs.Fixed.{fixedTold}
 
 abbrev pub timersFrom : List ℕ → RouterAdvertisementPayload
 timersFrom l = record { «reachable_time» = getD l 0 0; «retrans_timer» = getD l 1 0 }
@@ -32,3 +39,17 @@ redirectOf t d = record { «target_address» = t; «destination_address» = d }
 pub redirect-lossless : (x y : RedirectPayload) → x .«target_address» ≡ y .«target_address» → x .«destination_address» ≡ y .«destination_address» → x ≡ y
 redirect-lossless x y p q =
     ap (λ (l : List ℕ). redirectOf l (x .«destination_address»)) p ∙ ap (λ (l : List ℕ). redirectOf (y .«target_address») l) q
+
+abbrev fixedFrom : Paper → FixedPart
+fixedFrom p = cond (eqb (p .number) 0) Present (Refused (refusalOf p))
+
+fixed-back : (f : FixedPart) → fixedFrom (fixedTold f) ≡ f
+fixed-back Present = refl
+fixed-back (Refused r) = simp (refusal-numbered r, refusal-back r)
+
+pub fixed-lossless : (x y : FixedPart) → fixedTold x ≡ fixedTold y → x ≡ y
+fixed-lossless = lossless fixedTold fixedFrom fixed-back
+
+-- an answer and what stands beside it
+pub beside : {P R : Type 0} (make : FixedPart → P → R) {a b : FixedPart} {p q : P} → a ≡ b → p ≡ q → make a p ≡ make b q
+beside make {a} {b} {p} {q} e f = ap (λ (x : FixedPart). make x p) e ∙ ap (λ (x : _). make b x) f

@@ -1,14 +1,18 @@
 -- Each fixed part is read back as it was written, and written back as it was read. The target of a neighbor message is its own bytes.
 -- Assumes nothing.
-use Prim.Native.Nat.{ℕ, _<_}
+use Prim.Native.Nat.{ℕ, _+_, _<_, _≤_}
 use mathlib.Core.Path.{_≡_, ap, _∙_}
 use mathlib.Core.List.{List, [], _∷_, _++_}
-use lib.ListN.{length, getD, take, drop, take-append-drop}
+use native.Mathlib.Omega.{arith}
+use borrow.Author.Tests.{le-ltb}
+use Rattle.paper.specs.Paper.{gives}
+use lib.ListN.{length, getD, take, drop, take-append-drop, length-append, length-replicate}
 use lib.Seq.{take-at, drop-at}
 use Rattle.wire.specs.Wire.{bytes32}
 use Rattle.wire.proofs.Laws.{join32, split32}
 use Rattle.icmpv6_payload.specs.declared.redirect_payload.RedirectPayload.{RedirectPayload}
 use Rattle.icmpv6_payload.specs.declared.router_advertisement_payload.RouterAdvertisementPayload.{RouterAdvertisementPayload}
+use Rattle.icmpv6_payload.specs.Fixed.{fixedOf, startOr, partOf}
 use Rattle.icmpv6_payload.specs.Owned.{timersIn, timersTold, timersBytes, redirectBytes}
 
 -- the premises say that the timers are of 32 bits, and bytes below 256, as their types have it
@@ -35,3 +39,16 @@ module _ (p : RedirectPayload) where
 
   pub redirect-read : (s : List ℕ) → p .«target_address» ≡ take 16 s → p .«destination_address» ≡ drop 16 s → redirectBytes p ≡ s
   redirect-read s t d = rw (t, d) (take-append-drop 16 s)
+
+-- a fixed part is found at the start of its payload, whatever options follow it
+module _ (n : ℕ) (part options : List ℕ) (all : length part ≡ n) where
+  enough : n ≤ length (part ++ options)
+  enough = let both : length (part ++ options) ≡ length part + length options = length-append part options in omega arith
+
+  pub part-there : fixedOf n (part ++ options) ≡ gives []
+  unfolding fixedOf
+  part-there = simp (le-ltb (length (part ++ options)) n enough)
+
+  pub part-found : partOf n (part ++ options) ≡ part
+  unfolding startOr
+  part-found = simp (length-replicate, le-ltb (length (part ++ options)) n enough, take-at part options n all)

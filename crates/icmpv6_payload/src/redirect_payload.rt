@@ -2,10 +2,17 @@
 ghost use mathlib.Core.Path.{_≡_};
 ghost use lib.ListN.{take, drop};
 ghost use Rattle.icmpv6_payload.specs.Owned.{redirectBytes};
+ghost use Rattle.icmpv6_payload.specs.Fixed.{fixedTold, fixedOf, partOf};
+use crate::FixedPart;
 
 pub struct RedirectPayload {
     pub target_address: [u8; 16],
     pub destination_address: [u8; 16],
+}
+
+pub struct RedirectRead {
+    pub answer: FixedPart,
+    pub payload: RedirectPayload,
 }
 
 impl RedirectPayload {
@@ -21,6 +28,19 @@ impl RedirectPayload {
         Self {
             target_address,
             destination_address,
+        }
+    }
+
+    // The fixed part at the start of a payload.
+    pub fn from_slice(payload: &[u8]) -> RedirectRead
+        ensures answers { λ r. ⌜ fixedTold (r .answer) ≡ fixedOf 32 (now (payload .entry)) ⌝ }
+        ensures tells { λ r. ⌜ (r .payload .«target_address» ≡ take 16 (partOf 32 (now (payload .entry)))) × (r .payload .«destination_address» ≡ drop 16 (partOf 32 (now (payload .entry)))) ⌝ }
+    {
+        let mut bytes = [0; 32];
+        let answer = crate::fill(&mut bytes, payload);
+        RedirectRead {
+            answer,
+            payload: RedirectPayload::from_bytes(bytes),
         }
     }
 

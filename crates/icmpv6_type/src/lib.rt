@@ -10,6 +10,7 @@ use icmpv6_codes::time_exceeded_code::TimeExceededListing;
 use icmpv6_headers::icmp_echo_header::IcmpEchoHeader;
 use icmpv6_headers::neighbor_advertisement_header::NeighborAdvertisementHeader;
 use icmpv6_headers::router_advertisement_header::RouterAdvertisementHeader;
+use message_table::types;
 
 // A parameter problem's code, and the place of the trouble in the packet that caused it.
 pub struct ParameterProblemHeader {
@@ -97,17 +98,17 @@ impl Icmpv6Type {
                 code_u8: _,
                 bytes5to8: _,
             } => type_u8,
-            Icmpv6Type::DestinationUnreachable(_) => 1,
-            Icmpv6Type::PacketTooBig { mtu: _ } => 2,
-            Icmpv6Type::TimeExceeded(_) => 3,
-            Icmpv6Type::ParameterProblem(_) => 4,
-            Icmpv6Type::EchoRequest(_) => 128,
-            Icmpv6Type::EchoReply(_) => 129,
-            Icmpv6Type::RouterSolicitation => 133,
-            Icmpv6Type::RouterAdvertisement(_) => 134,
-            Icmpv6Type::NeighborSolicitation => 135,
-            Icmpv6Type::NeighborAdvertisement(_) => 136,
-            Icmpv6Type::Redirect => 137,
+            Icmpv6Type::DestinationUnreachable(_) => types::TYPE_DST_UNREACH,
+            Icmpv6Type::PacketTooBig { mtu: _ } => types::TYPE_PACKET_TOO_BIG,
+            Icmpv6Type::TimeExceeded(_) => types::TYPE_TIME_EXCEEDED,
+            Icmpv6Type::ParameterProblem(_) => types::TYPE_PARAMETER_PROBLEM,
+            Icmpv6Type::EchoRequest(_) => types::TYPE_ECHO_REQUEST,
+            Icmpv6Type::EchoReply(_) => types::TYPE_ECHO_REPLY,
+            Icmpv6Type::RouterSolicitation => types::TYPE_ROUTER_SOLICITATION,
+            Icmpv6Type::RouterAdvertisement(_) => types::TYPE_ROUTER_ADVERTISEMENT,
+            Icmpv6Type::NeighborSolicitation => types::TYPE_NEIGHBOR_SOLICITATION,
+            Icmpv6Type::NeighborAdvertisement(_) => types::TYPE_NEIGHBOR_ADVERTISEMENT,
+            Icmpv6Type::Redirect => types::TYPE_REDIRECT_MESSAGE,
         }
     }
 

@@ -2,6 +2,8 @@
 ghost use mathlib.Core.Path.{_≡_};
 ghost use Rattle.message_table.specs.Table.{rows, rowOf, known, fixedLen, isNdp};
 
+pub mod types;
+
 // A known type, how many codes it has (listed from 0 on), and the bytes of its fixed part behind the head.
 pub struct Row {
     pub kind: u8,
@@ -11,57 +13,57 @@ pub struct Row {
 
 pub const ROWS: [Row; 11] = [
     Row {
-        kind: 1,
+        kind: types::TYPE_DST_UNREACH,
         codes: 7,
         fixed: 0,
     },
     Row {
-        kind: 2,
+        kind: types::TYPE_PACKET_TOO_BIG,
         codes: 1,
         fixed: 0,
     },
     Row {
-        kind: 3,
+        kind: types::TYPE_TIME_EXCEEDED,
         codes: 2,
         fixed: 0,
     },
     Row {
-        kind: 4,
+        kind: types::TYPE_PARAMETER_PROBLEM,
         codes: 11,
         fixed: 0,
     },
     Row {
-        kind: 128,
+        kind: types::TYPE_ECHO_REQUEST,
         codes: 1,
         fixed: 0,
     },
     Row {
-        kind: 129,
+        kind: types::TYPE_ECHO_REPLY,
         codes: 1,
         fixed: 0,
     },
     Row {
-        kind: 133,
+        kind: types::TYPE_ROUTER_SOLICITATION,
         codes: 1,
         fixed: 0,
     },
     Row {
-        kind: 134,
+        kind: types::TYPE_ROUTER_ADVERTISEMENT,
         codes: 1,
         fixed: 8,
     },
     Row {
-        kind: 135,
+        kind: types::TYPE_NEIGHBOR_SOLICITATION,
         codes: 1,
         fixed: 16,
     },
     Row {
-        kind: 136,
+        kind: types::TYPE_NEIGHBOR_ADVERTISEMENT,
         codes: 1,
         fixed: 16,
     },
     Row {
-        kind: 137,
+        kind: types::TYPE_REDIRECT_MESSAGE,
         codes: 1,
         fixed: 32,
     },

@@ -1,10 +1,14 @@
 // The five messages of Neighbor Discovery (RFC 4861, sections 4.1 to 4.5), as a sender makes them with this library: options, fixed part, packet,
-// record. Each is taken as a receiver would take it before its record goes to standard output. `tests/messages.py` makes the bytes that must come
-// out, without the library.
+// record. Each is taken as a receiver would take it before its record goes to standard output: head, fixed part and link-layer address must be those
+// that were sent. `tests/messages.py` makes the bytes that must come out, without the library.
 use capture::part;
 use capture::write_record;
+use icmpv6::icmpv6_header::Icmpv6Header;
+use icmpv6_checksum::HeaderMade;
+use icmpv6_checksum::to_header;
 use icmpv6_headers::neighbor_advertisement_header::NeighborAdvertisementHeader;
 use icmpv6_headers::router_advertisement_header::RouterAdvertisementHeader;
+use icmpv6_payload::FixedPart;
 use icmpv6_payload::neighbor_advertisement_payload::NeighborAdvertisementPayload;
 use icmpv6_payload::neighbor_solicitation_payload::NeighborSolicitationPayload;
 use icmpv6_payload::redirect_payload::RedirectPayload;
@@ -13,6 +17,7 @@ use icmpv6_payload_slice::Icmpv6PayloadSlice;
 use icmpv6_payload_slice::PayloadRead;
 use icmpv6_type::Icmpv6Type;
 use libc::STDOUT_FILENO;
+use message_table::types;
 use ndp_option::link_layer_address_option::LinkLayerAddressOption;
 use ndp_options::Step;
 use option_writer::write_link_layer_address;
@@ -46,19 +51,91 @@ fn say(text: &[u8]) {
     io::write_all(STDOUT_FILENO, text);
 }
 
-// Whether a receiver is handed an option of the packet.
+// Whether an option is the sender's or the target's link-layer address.
+fn is_link_layer(option: &[u8]) -> bool {
+    let source = LinkLayerAddressOption::Source;
+    let target = LinkLayerAddressOption::Target;
+    if check::same(source.link_layer_address(option), &LINK_LAYER) {
+        return true;
+    }
+    check::same(target.link_layer_address(option), &LINK_LAYER)
+}
+
+// Whether a receiver is handed an option of the packet, and finds the link-layer address in the first.
 fn has_options(packet: &[u8]) -> bool {
     let payload = icmpv6::icmpv6_slice::payload(packet);
     match Icmpv6PayloadSlice::from_packet(packet) {
         PayloadRead::Refused(_) => false,
-        PayloadRead::Payload(part) => {
-            match ndp_walker::first_step(part.options(payload)) {
-                Step::Handed(_, _) => true,
+        PayloadRead::Payload(found) => {
+            let options = found.options(payload);
+            match ndp_walker::first_step(options) {
+                Step::Handed(option, _) => is_link_layer(option.bytes(options)),
                 Step::End => false,
                 Step::Refused(_, _) => false,
                 Step::Stopped => false,
             }
         }
+    }
+}
+
+// Whether a fixed part was there, and is written as the payload begins.
+fn is_read(answer: FixedPart, payload: &[u8], written: &[u8]) -> bool {
+    match answer {
+        FixedPart::Present => wire::begins_with(payload, written),
+        FixedPart::Refused(_) => false,
+    }
+}
+
+// Whether the fixed part of a message is found by its own reader.
+fn has_fixed_part(type_u8: u8, payload: &[u8]) -> bool {
+    match type_u8 {
+        types::TYPE_ROUTER_ADVERTISEMENT => {
+            let read = RouterAdvertisementPayload::from_slice(payload);
+            let answer = read.answer;
+            let fixed = read.payload;
+            is_read(answer, payload, &fixed.to_bytes())
+        }
+        types::TYPE_NEIGHBOR_SOLICITATION => {
+            let read = NeighborSolicitationPayload::from_slice(payload);
+            let answer = read.answer;
+            let fixed = read.payload;
+            is_read(answer, payload, &fixed.to_bytes())
+        }
+        types::TYPE_NEIGHBOR_ADVERTISEMENT => {
+            let read = NeighborAdvertisementPayload::from_slice(payload);
+            let answer = read.answer;
+            let fixed = read.payload;
+            is_read(answer, payload, &fixed.to_bytes())
+        }
+        types::TYPE_REDIRECT_MESSAGE => {
+            let read = RedirectPayload::from_slice(payload);
+            let answer = read.answer;
+            let fixed = read.payload;
+            is_read(answer, payload, &fixed.to_bytes())
+        }
+        _ => true,
+    }
+}
+
+// Whether a packet is this header and the payload behind it.
+fn is_headed(header: Icmpv6Header, payload: &[u8], packet: &[u8]) -> bool {
+    if !wire::begins_with(packet, &header.to_bytes()) {
+        return false;
+    }
+    check::same(part(packet, header.header_len(), packet.len()), payload)
+}
+
+// Whether a packet is what a header made for the payload says.
+fn is_as_made(
+    icmp_type: Icmpv6Type,
+    source: &[u8; 16],
+    destination: &[u8; 16],
+    payload: &[u8],
+    packet: &[u8],
+) -> bool {
+    match to_header(icmp_type, payload, source, destination) {
+        HeaderMade::Header(header) => is_headed(header, payload, packet),
+        HeaderMade::Refused(_) => false,
     }
 }
 
@@ -73,7 +150,16 @@ fn put_record(source: &[u8; 16], destination: &[u8; 16], packet: &[u8]) {
 fn send(icmp_type: Icmpv6Type, source: &[u8; 16], destination: &[u8; 16], payload: &[u8]) {
     let mut packet = [0u8; 128];
     match write_packet(icmp_type, source, destination, payload, &mut packet) {
-        Written::To(n) => receive(part(&packet, 0, n), source, destination),
+        Written::To(n) => {
+            let sent = part(&packet, 0, n);
+            if !is_as_made(icmp_type, source, destination, payload, sent) {
+                say(b"another head\n");
+            }
+            if !has_fixed_part(icmp_type.type_u8(), payload) {
+                say(b"no fixed part\n");
+            }
+            receive(sent, source, destination);
+        }
         Written::Refused(_) => say(b"not written\n"),
     }
 }
@@ -154,9 +240,7 @@ fn router_advertisement() {
 }
 
 fn neighbor_solicitation() {
-    let fixed = NeighborSolicitationPayload {
-        target_address: HOST,
-    };
+    let fixed = NeighborSolicitationPayload::from_bytes(HOST);
     let mut payload = [0u8; 24];
     put(&mut payload, 0, &fixed.to_bytes());
     put_link_layer(&mut payload, 16, LinkLayerAddressOption::Source);
@@ -174,9 +258,7 @@ fn neighbor_advertisement() {
         solicited: true,
         override_flag: true,
     };
-    let fixed = NeighborAdvertisementPayload {
-        target_address: HOST,
-    };
+    let fixed = NeighborAdvertisementPayload::from_bytes(HOST);
     let mut payload = [0u8; 24];
     put(&mut payload, 0, &fixed.to_bytes());
     put_link_layer(&mut payload, 16, LinkLayerAddressOption::Target);
@@ -189,10 +271,10 @@ fn neighbor_advertisement() {
 }
 
 fn redirect() {
-    let fixed = RedirectPayload {
-        target_address: ROUTER,
-        destination_address: ELSEWHERE,
-    };
+    let mut addresses = [0u8; 32];
+    put(&mut addresses, 0, &ROUTER);
+    put(&mut addresses, 16, &ELSEWHERE);
+    let fixed = RedirectPayload::from_bytes(addresses);
     let mut payload = [0u8; 40];
     put(&mut payload, 0, &fixed.to_bytes());
     put_link_layer(&mut payload, 32, LinkLayerAddressOption::Target);

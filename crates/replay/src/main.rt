@@ -24,6 +24,7 @@ const CALLS: u8 = 32;
 // No more vectors than this are read, so that the program ends on an endless stream too.
 const MOST: u64 = 4611686018427387904;
 
+// Never beyond the counts: three are kept for each of the calls.
 fn count_at(counts: &[u64], at: usize) -> u64 {
     if at < counts.len() { counts[at] } else { 0 }
 }
@@ -42,6 +43,7 @@ fn count(counts: &mut [u64], at: usize) {
 
 // Notes an answer to a call whose vector begins at a place.
 fn note(counts: &mut [u64], call: u8, place: u64, equal: bool) {
+    // A call that there is none of is counted as call 0, whose line is that of another call.
     let kept = if call < CALLS { call } else { 0 };
     let at = 3 * kept as usize;
     count(counts, at);
@@ -59,6 +61,7 @@ fn note(counts: &mut [u64], call: u8, place: u64, equal: bool) {
 
 // Whether the library's answer to a call is the one of the vector, whose input ends at a place of the body.
 fn is_answered(call: u8, body: &[u8], len: usize) -> bool {
+    // Never: the input and the answer are the body.
     if body.len() < len {
         return false;
     }
@@ -75,6 +78,7 @@ fn turn(body: &mut [u8], counts: &mut [u64], place: u64) -> usize {
     }
     let len = numbers::word(head[1], head[2]);
     let to = len + 4 * numbers::word(head[3], head[4]);
+    // Never: no vector is longer.
     if body.len() < to {
         return cut(place);
     }

@@ -50,6 +50,7 @@ pub(crate) fn refused_at(why: Refusal, place: usize) -> Told {
     if count == 3 {
         return tell(5, n.number as u64, v[0], v[1], v[2], place as u64, 0);
     }
+    // Never: a walk refuses 5, 6 and 7, which carry one number or three.
     nothing()
 }
 

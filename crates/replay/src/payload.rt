@@ -15,6 +15,7 @@ fn word_of(address: &[u8], at: usize) -> u64 {
     if address.len() != 16 {
         return 4294967296;
     }
+    // Never: the words of an address begin at 0, 4, 8 and 12.
     if 12 < at {
         return 4294967296;
     }
@@ -66,6 +67,7 @@ fn payload_told(p: Icmpv6PayloadSlice, payload: &[u8]) -> Told {
             )
         }
         Icmpv6PayloadKind::Redirect => redirect_told(p, payload),
+        // The readers of the other kinds are absent: no vector has their answer.
         _ => numbers::nothing(),
     }
 }

@@ -65,6 +65,7 @@ fn step(input: &[u8], answer: &[u8], w: Walking) -> Walking {
             }
             last(answer, w, numbers::refused_at(why, place))
         }
+        // Never: the walk goes on from a place within the bytes.
         Step::Stopped => last(answer, w, numbers::nothing()),
     }
 }
@@ -116,6 +117,7 @@ fn step_to_absent(input: &[u8], answer: &[u8], w: Walking) -> Walking {
             last(answer, w, given(input, o))
         }
         Step::Refused(why, _) => last(answer, w, given_misfit(why, place)),
+        // Never Stopped, as above; an end is not what such a vector has.
         _ => last(answer, w, numbers::nothing()),
     }
 }
