@@ -33,7 +33,7 @@ Claim (steps options at answer) = stepOf options at ≡ answer
 Claim (reads option answer information) = prefixOf option ≡ prefix.told answer information
 Claim (rewrites option bytes) = bytesOf (informationAt option) ≡ bytes
 Claim (validates source destination packet answer) = verdictOf source destination packet ≡ answer
-Claim (dispatches kind payload answer) = payloadOf kind payload ≡ answer
+Claim (dispatches kind payload answer) = payloadOf 0 kind payload ≡ answer
 
 abbrev pub zeros : ℕ → List ℕ
 zeros n = replicate n 0

@@ -8,6 +8,7 @@ use mathlib.Core.List.{List, [], _∷_, _++_}
 use native.Mathlib.Omega.{arith}
 use lib.Dec.{eqb, ltb}
 use lib.ListN.{length, getD, drop, length-drop}
+use lib.Seq.{drop-drop, drop-length}
 use borrow.Author.Tests.{ltb-false}
 use Rattle.paper.specs.Paper.{Paper, refuses, gives}
 use Rattle.message_table.specs.Table.{known, fixedLen, isNdp}
@@ -19,7 +20,7 @@ use Rattle.icmpv6_type.specs.declared.Icmpv6Type.the-variants.{Unknown}
 use Rattle.icmpv6_type.specs.Value.{typeTold, typeOf, kindNumber, fieldsOf, wordOf}
 use Rattle.icmpv6.specs.declared.icmpv6_header.Icmpv6Header.{Icmpv6Header}
 use Rattle.icmpv6.specs.Head.{decodeOf, encodeOf, headerTold, fieldsAt}
-use Rattle.icmpv6_payload_slice.specs.Dispatch.{kindOf, optionsAt, payloadOf, byValue, byBytes}
+use Rattle.icmpv6_payload_slice.specs.Dispatch.{kindOf, optionsAt, optionsIn, payloadOf, byValue, byBytes}
 use Rattle.icmpv6_payload_slice.proofs.Laws.{whole, known-pair}
 use Rattle.icmpv6_payload_slice.proofs.Opened.{known-0}
 
@@ -61,6 +62,14 @@ moved k p h =
     by true b = refl
     by false true = refl
     by false false = let e : 8 + (length p - 8) ≡ length p = omega arith in rw e
+
+-- and its options are those of the payload
+pub same-options : (k : ℕ) (p : List ℕ) → 8 ≤ length p → optionsIn 8 k p ≡ optionsIn 0 k (drop 8 p)
+same-options k p h = by (isNdp k)
+  where
+    by : (b : Bool) → drop (cond b (8 + fixedLen k) (length p)) p ≡ drop (cond b (0 + fixedLen k) (length (drop 8 p))) (drop 8 p)
+    by true = let e : 8 + fixedLen k ≡ 8 + (0 + fixedLen k) = omega arith in ap (λ (n : ℕ). drop n p) e ∙ sym (drop-drop (0 + fixedLen k) 8 p)
+    by false = drop-length p ∙ sym (drop-length (drop 8 p))
 
 -- on decoded values the two agree: kind, parts and refusal
 pub agree : (p : List ℕ) (h : Icmpv6Header) → decodeOf p ≡ gives (headerTold h) → byBytes p ≡ behindHead (byValue (h .«icmp_type») (drop 8 p))

@@ -37,6 +37,21 @@ kind-first p s = by (known (getD p 0 0) (getD p 1 0)) refl
     by true e = rw (known-0 (getD p 0 0) (getD p 1 0) e)
     by false e = raw-first s
 
+-- what an answer says of the bytes that were dispatched, by the value or by the bytes
+pub record Placed (base k : ℕ) (s : List ℕ) (m : Icmpv6PayloadSlice) : Type 0 where
+  pub payload : m .«payload_at» ≡ base
+  pub options : m .«options_at» ≡ optionsAt base k (length s)
+  pub fixed : fixedLen k ≤ length s - base
+  pub within : m .«options_at» ≤ length s
+  pub told : readTold (Payload m) ≡ partsOf base k s
+
+pub placed : (base k : ℕ) (s : List ℕ) {m : Icmpv6PayloadSlice} → base ≤ length s → readTold (Payload m) ≡ payloadOf base k s → Placed base k s m
+placed base k s {m} b e =
+    let h = not-short base k s (readTold (Payload m)) (λ z. omega (arith, z)) (sym e) in
+    let at : m .«options_at» ≡ optionsAt base k (length s) = ap (λ (q : Paper). getD (q .values) 1 0) (h .1) in
+    let in′ : optionsAt base k (length s) ≤ length s = options-within base k s b (h .0) in
+    record { payload = ap (λ (q : Paper). getD (q .values) 0 0) (h .1); options = at; fixed = h .0; within = rw at in′; told = h .1 }
+
 -- what is handed on of a packet whose parts are all there
 pub record Opened (p : List ℕ) (m : Icmpv6PayloadSlice) : Type 0 where
   pub payload : m .«payload_at» ≡ 8
@@ -52,16 +67,14 @@ module _ (p : List ℕ) (fits : Between (length p)) (x : PayloadRead) (e : readT
 
   pub opened : {m : Icmpv6PayloadSlice} → x ≡ Payload m → Opened p m
   opened {m} arm =
-      let h = not-short 8 (kindAt p) p (readTold (Payload m)) (λ z. omega (arith, z)) (here ∙ ap readTold arm) in
-      let at : m .«options_at» ≡ optionsAt 8 (kindAt p) (length p) = ap (λ (q : Paper). getD (q .values) 1 0) (h .1) in
-      let in′ : optionsAt 8 (kindAt p) (length p) ≤ length p = options-within 8 (kindAt p) p (fits .low) (h .0) in
+      let h = placed 8 (kindAt p) p {m = m} (fits .low) (sym (ap readTold arm) ∙ sym here) in
       record {
-        payload = ap (λ (q : Paper). getD (q .values) 0 0) (h .1);
-        options = at;
-        kind = ap (λ (q : Paper). getD (drop 2 (q .values)) 0 0) (h .1) ∙ kind-first p (drop 8 p);
-        fixed = omega (arith, h .0, fits .low);
-        within = rw at in′;
-        told = fitting p fits ∙ here ∙ ap readTold arm ∙ h .1;
+        payload = h .payload;
+        options = h .options;
+        kind = ap (λ (q : Paper). getD (drop 2 (q .values)) 0 0) (h .told) ∙ kind-first p (drop 8 p);
+        fixed = omega (arith, h .fixed, fits .low);
+        within = h .within;
+        told = fitting p fits ∙ here ∙ ap readTold arm ∙ h .told;
       }
 
   -- where it is refused, it is refused 4

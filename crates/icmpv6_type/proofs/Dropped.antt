@@ -16,7 +16,7 @@ use Rattle.message_table.proofs.View.{Known, unreachable, tooBig, exceeded, pro
 use Rattle.icmpv6_type.specs.Value.{typeOf, typeNumber, codeNumber, fieldBytes, fieldsOf}
 use Rattle.icmpv6_type.specs.Reserved.{cleared}
 use Rattle.icmpv6_type.proofs.Laws.{as-known, as-unknown}
-use Rattle.icmpv6_type.proofs.Paper.{typeFrom}
+use Rattle.icmpv6_type.specs.From.{typeFrom}
 use Rattle.icmpv6_type.proofs.RoundTrip.{Written, by-table}
 
 -- a flag that stands above the bits that are cleared

@@ -19,6 +19,7 @@ use icmpv6_type::Icmpv6Type;
 use libc::STDOUT_FILENO;
 use message_table::types;
 use ndp_option::link_layer_address_option::LinkLayerAddressOption;
+use ndp_options::Cursor;
 use ndp_options::Step;
 use option_writer::write_link_layer_address;
 use option_writer::write_mtu;
@@ -62,19 +63,16 @@ fn is_link_layer(option: &[u8]) -> bool {
 }
 
 // Whether a receiver is handed an option of the packet, and finds the link-layer address in the first.
-fn has_options(packet: &[u8]) -> bool {
-    let payload = icmpv6::icmpv6_slice::payload(packet);
-    match Icmpv6PayloadSlice::from_packet(packet) {
-        PayloadRead::Refused(_) => false,
-        PayloadRead::Payload(found) => {
-            let options = found.options(payload);
-            match ndp_walker::first_step(options) {
-                Step::Handed(option, _) => is_link_layer(option.bytes(options)),
-                Step::End => false,
-                Step::Refused(_, _) => false,
-                Step::Stopped => false,
-            }
-        }
+fn has_options(packet: &[u8], message: Icmpv6PayloadSlice) -> bool {
+    let start = Cursor {
+        at: message.options_at,
+    };
+    let options = start.rest(packet);
+    match ndp_walker::first_step(options) {
+        Step::Handed(option, _) => is_link_layer(option.bytes(options)),
+        Step::End => false,
+        Step::Refused(_, _) => false,
+        Step::Stopped => false,
     }
 }
 
@@ -167,8 +165,8 @@ fn send(icmp_type: Icmpv6Type, source: &[u8; 16], destination: &[u8; 16], payloa
 fn receive(packet: &[u8], source: &[u8; 16], destination: &[u8; 16]) {
     match receive_check(packet, 255, source, destination) {
         Received::Refused(_) => say(b"not received\n"),
-        Received::Accepted => {
-            if has_options(packet) {
+        Received::Accepted(message) => {
+            if has_options(packet, message) {
                 put_record(source, destination, packet);
             } else {
                 say(b"no options\n");

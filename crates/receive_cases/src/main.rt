@@ -29,7 +29,7 @@ fn print_refusal(why: Refusal) {
 
 fn print_answer(answer: Received) {
     match answer {
-        Received::Accepted => print_number(0),
+        Received::Accepted(_) => print_number(0),
         Received::Refused(why) => print_refusal(why),
     }
     io::write_all(STDOUT_FILENO, b"\n");

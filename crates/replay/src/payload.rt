@@ -9,6 +9,7 @@ use icmpv6_payload_slice::Icmpv6PayloadKind;
 use icmpv6_payload_slice::Icmpv6PayloadSlice;
 use icmpv6_payload_slice::PayloadRead;
 use icmpv6_type::Icmpv6Type;
+use ndp_options::Cursor;
 
 // Four bytes of an address that was handed back; else no number that a vector has.
 fn word_of(address: &[u8], at: usize) -> u64 {
@@ -27,10 +28,16 @@ fn word_of(address: &[u8], at: usize) -> u64 {
     )
 }
 
-fn redirect_told(p: Icmpv6PayloadSlice, payload: &[u8]) -> Told {
-    let target = p.target_address(payload);
-    let destination = p.destination_address(payload);
-    let options = p.options(payload);
+// The options of a payload, in the bytes that were dispatched.
+fn options_of(p: Icmpv6PayloadSlice, bytes: &[u8]) -> &[u8] {
+    let start = Cursor { at: p.options_at };
+    start.rest(bytes)
+}
+
+fn redirect_told(p: Icmpv6PayloadSlice, bytes: &[u8], payload: &[u8]) -> Told {
+    let target = p.target_address(bytes);
+    let destination = p.destination_address(bytes);
+    let options = options_of(p, bytes);
     Told {
         count: 12,
         values: [
@@ -50,12 +57,12 @@ fn redirect_told(p: Icmpv6PayloadSlice, payload: &[u8]) -> Told {
     }
 }
 
-fn payload_told(p: Icmpv6PayloadSlice, payload: &[u8]) -> Told {
+fn payload_told(p: Icmpv6PayloadSlice, bytes: &[u8], payload: &[u8]) -> Told {
     let kind = p.kind;
     match kind {
-        Icmpv6PayloadKind::Raw => tell(4, 0, 0, p.options_at as u64, payload.len() as u64, 0, 0),
+        Icmpv6PayloadKind::Raw => tell(4, 0, 0, 0, payload.len() as u64, 0, 0),
         Icmpv6PayloadKind::RouterAdvertisement(timers) => {
-            let options = p.options(payload);
+            let options = options_of(p, bytes);
             tell(
                 6,
                 0,
@@ -66,7 +73,7 @@ fn payload_told(p: Icmpv6PayloadSlice, payload: &[u8]) -> Told {
                 timers.retrans_timer as u64,
             )
         }
-        Icmpv6PayloadKind::Redirect => redirect_told(p, payload),
+        Icmpv6PayloadKind::Redirect => redirect_told(p, bytes, payload),
         // The readers of the other kinds are absent: no vector has their answer.
         _ => numbers::nothing(),
     }
@@ -94,9 +101,9 @@ fn given(read: PayloadRead, kind: u8, payload: &[u8]) -> Told {
     }
 }
 
-fn read_told(read: PayloadRead, payload: &[u8]) -> Told {
+fn read_told(read: PayloadRead, bytes: &[u8], payload: &[u8]) -> Told {
     match read {
-        PayloadRead::Payload(p) => payload_told(p, payload),
+        PayloadRead::Payload(p) => payload_told(p, bytes, payload),
         PayloadRead::Refused(why) => numbers::refused(why),
     }
 }
@@ -113,7 +120,7 @@ pub(crate) fn of_type(input: &[u8], to_absent: bool) -> Told {
             if to_absent {
                 return given(read, input[0], payload);
             }
-            read_told(read, payload)
+            read_told(read, payload, payload)
         }
         Value::Not => numbers::nothing(),
     }
@@ -129,18 +136,19 @@ pub(crate) fn of_packet(input: &[u8], to_absent: bool) -> Told {
         }
         return given(read, input[0], payload);
     }
-    read_told(read, payload)
+    read_told(read, input, payload)
 }
 
 // The fixed part of one kind.
 pub(crate) fn of_advertisement(input: &[u8]) -> Told {
     let t = Icmpv6Type::RouterAdvertisement(types::router_of(0, 0, 0, 0, 0));
-    read_told(Icmpv6PayloadSlice::from_slice(t, input), input)
+    read_told(Icmpv6PayloadSlice::from_slice(t, input), input, input)
 }
 
 pub(crate) fn of_redirect(input: &[u8]) -> Told {
     read_told(
         Icmpv6PayloadSlice::from_slice(Icmpv6Type::Redirect, input),
+        input,
         input,
     )
 }

@@ -6,8 +6,7 @@ use native.Mathlib.Omega.{arith}
 use mathlib.Core.Bool.{true}
 use mathlib.Core.Path.{_≡_, refl, sym, ap, _∙_}
 use mathlib.Core.List.{List}
-use lib.ListN.{length, drop}
-use lib.Seq.{drop-drop}
+use lib.ListN.{length}
 use Rattle.paper.specs.Paper.{gives}
 use Rattle.packet_length.proofs.Laws.{Between}
 use Rattle.message_table.specs.Table.{fixedLen, isNdp}
@@ -25,7 +24,10 @@ use Rattle.receive.specs.Reasons.{firstOf}
 use Rattle.receive.specs.Rules.{ownOf}
 use Rattle.receive.specs.Receive.{answerBy, receiveOf}
 use Rattle.receive.specs.Receive as check
+use Rattle.receive.proofs.Types.{ndp-kind}
 use Rattle.receive.proofs.Theorems.{own-alone}
+use Rattle.icmpv6_payload_slice.specs.Dispatch.{optionsIn}
+use Rattle.icmpv6_payload_slice.proofs.Agree.{same-options}
 use Rattle.writer.specs.Write.{optionsOf, packetOf, writeOf}
 use Rattle.writer.proofs.Accepted.{accepted}
 use Rattle.writer.proofs.Sent.{payload-kept, length-is, validates}
@@ -38,40 +40,41 @@ pub data Ndp : Icmpv6Type → Type 0 where
   neighborAdvertisement : (h : NeighborAdvertisementHeader) → Ndp (NeighborAdvertisement h)
   redirect : Ndp Redirect
 
--- what the check asks of such a value's head, and where it looks for the options
-record Head (t : Icmpv6Type) (payload : List ℕ) : Type 0 where
+-- what the check asks of such a value's head
+record Head (t : Icmpv6Type) : Type 0 where
   ndp : isNdp (typeNumber t) ≡ true
   code : codeNumber t ≡ 0
   same : kindNumber t ≡ typeNumber t
-  behind : optionsOf t payload ≡ drop (fixedLen (typeNumber t)) payload
 
-head : {t : Icmpv6Type} (payload : List ℕ) → Ndp t → Head t payload
-head payload routerSolicitation = record { ndp = refl; code = refl; same = refl; behind = refl }
-head payload (routerAdvertisement h) = record { ndp = refl; code = refl; same = refl; behind = refl }
-head payload neighborSolicitation = record { ndp = refl; code = refl; same = refl; behind = refl }
-head payload (neighborAdvertisement h) = record { ndp = refl; code = refl; same = refl; behind = refl }
-head payload redirect = record { ndp = refl; code = refl; same = refl; behind = refl }
+head : {t : Icmpv6Type} → Ndp t → Head t
+head routerSolicitation = record { ndp = refl; code = refl; same = refl }
+head (routerAdvertisement h) = record { ndp = refl; code = refl; same = refl }
+head neighborSolicitation = record { ndp = refl; code = refl; same = refl }
+head (neighborAdvertisement h) = record { ndp = refl; code = refl; same = refl }
+head redirect = record { ndp = refl; code = refl; same = refl }
 
 module _ {t : Icmpv6Type} (is : Ndp t) (source destination payload out v : List ℕ) (written : writeOf t payload out ≡ gives v)
     (fits : Fits t) (hs : Bytes source) (hd : Bytes destination) (hp : Bytes payload) where
   abbrev packet : List ℕ
   packet = packetOf source destination t payload
 
-  -- the check finds the options that the writer walked
+  -- the check is handed the options that the writer walked: the dispatch by bytes and that by value place them alike
   options-found : check.optionsOf packet ≡ optionsOf t payload
   options-found =
-      sym (drop-drop (fixedLen (typeNumber t)) 8 packet)
-      ∙ ap (drop (fixedLen (typeNumber t))) (payload-kept source destination t payload)
-      ∙ sym (head payload is .behind)
+      let h = head is in
+      let n = length-is source destination t payload in
+      ap (λ (k : ℕ). optionsIn 8 k packet) (ndp-kind packet (h .ndp) (h .code) ∙ sym (h .same))
+      ∙ same-options (kindNumber t) packet (omega (arith, n))
+      ∙ ap (optionsIn 0 (kindNumber t)) (payload-kept source destination t payload)
 
-  pub received : receiveOf 255 source destination packet ≡ answerBy (firstOf (ownOf (typeNumber t) source destination packet (occurs 1 (walk (optionsOf t payload) .items))))
+  pub received : receiveOf 255 source destination packet ≡ answerBy packet (firstOf (ownOf (typeNumber t) source destination packet (occurs 1 (walk (optionsOf t payload) .items))))
   received =
       let ok = accepted t payload out v written in
-      let h = head payload is in
+      let h = head is in
       let n = length-is source destination t payload in
       let within : Between (length packet) = record { low = omega (arith, n); high = omega (arith, n, ok .within) } in
       let some : fixedLen (typeNumber t) ≤ length payload = rw (h .same) at (ok .present) in
       let there : 8 + fixedLen (typeNumber t) ≤ length packet = omega (arith, n) in
       own-alone 255 source destination packet within (h .ndp) refl (ap isValid (validates source destination t payload fits (ok .named) (ok .within) hp hs hd)) (h .code) there
       (ap (λ (l : List ℕ). walk l .ending) options-found ∙ ok .walks)
-      ∙ ap (λ (l : List ℕ). answerBy (firstOf (ownOf (typeNumber t) source destination packet (occurs 1 (walk l .items))))) options-found
+      ∙ ap (λ (l : List ℕ). answerBy packet (firstOf (ownOf (typeNumber t) source destination packet (occurs 1 (walk l .items))))) options-found

@@ -1,50 +1,30 @@
--- The cases of what the writer tests before the output, in document 01's order, and what each answer of a callee says there.
+-- The cases of what the writer tests before the output, in their order, and what each answer of a callee says there.
 -- Assumes nothing.
 use Prim.Native.Nat.{ℕ, _+_, _<_, _≤_}
 use native.Mathlib.Omega.{arith}
-use native.Mathlib.Decide.{decLe}
 use native.Mathlib.Nat.{zero-add}
 use mathlib.Core.Bool.{Bool, true, false, cond}
 use mathlib.Core.Path.{_≡_, refl, ap, _∙_}
 use mathlib.Core.List.{List, [], _∷_}
 use lib.Dec.{ltb}
-use lib.ListN.{length, getD}
+use lib.ListN.{length, drop}
 use borrow.Author.Tests.{lt-ltb, le-ltb, ltb-false}
 use Rattle.paper.specs.Paper.{Paper, refuses, gives}
 use Rattle.refusal.specs.declared.Refusal.{Refusal}
 use Rattle.refusal.specs.Paper.{refusal}
 use Rattle.refusal.proofs.Paper.{refusal-numbered}
-use Rattle.message_table.specs.Table.{known, fixedLen}
 use Rattle.icmpv6_type.specs.declared.Icmpv6Type.{Icmpv6Type}
-use Rattle.icmpv6_type.specs.declared.Icmpv6Type.the-variants.{Unknown, DestinationUnreachable, PacketTooBig, TimeExceeded, ParameterProblem, EchoRequest, EchoReply, RouterSolicitation, RouterAdvertisement, NeighborSolicitation, NeighborAdvertisement, Redirect}
 use Rattle.icmpv6_type.specs.Value.{kindNumber, typeNumber, codeNumber}
 use Rattle.icmpv6_type.specs.Reserved.{misnamed}
-use Rattle.icmpv6_payload_slice.specs.declared.Icmpv6PayloadKind.{Icmpv6PayloadKind}
-use Rattle.icmpv6_payload_slice.specs.Dispatch.{kindOf, kindTold, byValue}
-use Rattle.icmpv6_payload_slice.specs.Dispatch as dispatch
-use Rattle.icmpv6_payload_slice.specs.Parts.{optionsPart}
-use Rattle.icmpv6_payload_slice.proofs.Laws.{short, whole}
+use Rattle.icmpv6_payload_slice.specs.declared.Icmpv6PayloadSlice.{Icmpv6PayloadSlice}
+use Rattle.icmpv6_payload_slice.specs.declared.PayloadRead.the-variants.{Payload}
+use Rattle.icmpv6_payload_slice.specs.Dispatch.{readTold, byValue}
+use Rattle.icmpv6_payload_slice.proofs.Opened.{placed}
 use Rattle.ndp_walk.specs.Step.{told}
 use Rattle.ndp_option_list.specs.Whole.{countOf}
 use Rattle.writer.specs.Write.{_orElse_, optionsOf, sendableOf, writeOf}
 use Rattle.output.specs.Output.{leaves}
 use Rattle.output.proofs.Fitting.{fits as there-is-room, narrow as no-room}
-
--- a value is dispatched to its own kind
-kind-kept : (t : Icmpv6Type) (s : List ℕ) → getD (kindOf (kindNumber t) s) 0 0 ≡ kindNumber t
-unfolding known
-kind-kept (Unknown k c w) s = refl
-kind-kept (DestinationUnreachable c) s = refl
-kind-kept (PacketTooBig mtu) s = refl
-kind-kept (TimeExceeded c) s = refl
-kind-kept (ParameterProblem h) s = refl
-kind-kept (EchoRequest h) s = refl
-kind-kept (EchoReply h) s = refl
-kind-kept RouterSolicitation s = refl
-kind-kept (RouterAdvertisement h) s = refl
-kind-kept NeighborSolicitation s = refl
-kind-kept (NeighborAdvertisement h) s = refl
-kind-kept Redirect s = refl
 
 -- an answer that refuses is the first of two, and one that does not gives way
 pub refused-first : (why : Refusal) (b : Paper) → (refusal why orElse b) ≡ refusal why
@@ -70,7 +50,7 @@ module _ (t : Icmpv6Type) (s : List ℕ) where
       no-fixed-part why e = rest ∙ rw (← e) (refused-first why _)
 
       -- the fixed part is there: the walk of the options decides
-      module _ (at : ℕ) (kind : Icmpv6PayloadKind) (given : gives (at ∷ kindTold kind) ≡ byValue t s) (n : ℕ) where
+      module _ (m : Icmpv6PayloadSlice) (given : readTold (Payload m) ≡ byValue t s) (n : ℕ) where
         pub no-clean-walk : (why : Refusal) → told (refusal why) n ≡ countOf (optionsOf t s) → sendableOf t s ≡ refusal why
         no-clean-walk why e = rest ∙ rw (← given, ← e) (refused-first why _)
 
@@ -78,15 +58,10 @@ module _ (t : Icmpv6Type) (s : List ℕ) where
         clean e = rest ∙ rw (← given, ← e)
 
   -- what was dispatched says where the options are
-  pub dispatched : (at : ℕ) (kind : Icmpv6PayloadKind) → gives (at ∷ kindTold kind) ≡ byValue t s → optionsPart (dispatch.kindNumber kind) at s ≡ optionsOf t s
-  dispatched at kind e = elim (decLe (fixedLen (kindNumber t)) (length s)) [
-    | yes h ↦
-        let q = e ∙ whole (kindNumber t) s h in
-        let place : at ≡ fixedLen (kindNumber t) = ap (λ (p : Paper). getD (p .values) 0 0) q in
-        let own : dispatch.kindNumber kind ≡ kindNumber t = ap (λ (p : Paper). getD (p .values) 1 0) q ∙ kind-kept t s in
-        rw (place, own)
-    | no h ↦ absurd (let z = ap (λ (p : Paper). p .number) (e ∙ short (kindNumber t) s (omega arith)) in omega arith)
-  ]
+  pub dispatched : (m : Icmpv6PayloadSlice) → readTold (Payload m) ≡ byValue t s → (m .«options_at» ≤ length s) × (drop (m .«options_at») s ≡ optionsOf t s)
+  dispatched m e =
+      let h = placed 0 (kindNumber t) s {m = m} (omega arith) e in
+      (h .within, ap (λ (i : ℕ). drop i s) (h .options))
 
   -- what passed every test is within the limit
   pub within : gives [] ≡ sendableOf t s → length s ≤ 65527

@@ -9,15 +9,13 @@ use lib.Dec.{ltb, eqb}
 use lib.ListN.{length, take, drop}
 use Rattle.paper.specs.Paper.{Paper, refuses, gives}
 use Rattle.refusal.specs.Paper.{refusal}
-use Rattle.message_table.specs.Table.{fixedLen}
 use Rattle.icmpv6_type.specs.declared.Icmpv6Type.{Icmpv6Type}
 use Rattle.icmpv6_type.specs.Value.{kindNumber, typeNumber, codeNumber}
 use Rattle.icmpv6_type.specs.Reserved.{misnamed}
 use Rattle.icmpv6.specs.Head.{encodeOf}
 use Rattle.checksum.specs.Icmpv6.{checksumOf}
 use Rattle.icmpv6_checksum.specs.Header.{headOf}
-use Rattle.icmpv6_payload_slice.specs.Dispatch.{byValue}
-use Rattle.icmpv6_payload_slice.specs.Parts.{optionsPart}
+use Rattle.icmpv6_payload_slice.specs.Dispatch.{optionsIn, byValue}
 use Rattle.ndp_option_list.specs.Whole.{countOf}
 use Rattle.output.specs.declared.Written.{Written}
 use Rattle.output.specs.declared.Written.the-variants as output
@@ -30,9 +28,9 @@ infixr 20 _orElse_
 abbrev pub _orElse_ : Paper → Paper → Paper
 a orElse b = cond (eqb (a .number) 0) b a
 
--- the options behind the fixed part: none unless the value is of types 133 to 137
+-- the option bytes, where the dispatch places them: none unless the value is of types 133 to 137
 abbrev pub optionsOf : Icmpv6Type → List ℕ → List ℕ
-optionsOf t payload = optionsPart (kindNumber t) (fixedLen (kindNumber t)) payload
+optionsOf t payload = optionsIn 0 (kindNumber t) payload
 
 -- refusals 10 and 3, the dispatch's 4, the walk's 5 to 8
 unfoldable pub sendableOf : Icmpv6Type → List ℕ → Paper

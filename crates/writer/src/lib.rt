@@ -51,7 +51,8 @@ fn check(icmp_type: Icmpv6Type, payload: &[u8]) -> Sendable
     match Icmpv6PayloadSlice::from_slice(icmp_type, payload) {
         PayloadRead::Refused(why) => Sendable::Refused(why),
         PayloadRead::Payload(part) => {
-            match ndp_option_list::count(part.options(payload)) {
+            let at = part.options_at;
+            match ndp_option_list::count(&payload[at..]) {
                 Counted::All(_) => Sendable::Yes,
                 Counted::Refused(why, _) => Sendable::Refused(why),
             }
