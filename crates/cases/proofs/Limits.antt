@@ -1,6 +1,7 @@
 -- Every case of the limits holds: with the length in its place each test computes.
 -- Assumes nothing.
 use native.Mathlib.Omega.{arith}
+use lib.Seq.{drop-length}
 use Rattle.paper.specs.Each.{Each}
 use Rattle.message_table.specs.Table.{known, fixedLen}
 use Rattle.checksum.specs.Icmpv6.{computedOf}
@@ -18,7 +19,7 @@ hold = (
   (
     λ source destination head payload n. rw n,
     (
-      λ payload out n room. rw n (fits 65535 out 0 (omega arith)),
+      λ payload out n room. rw (drop-length payload, n) (fits 65535 out 0 (omega arith)),
       (λ payload out n room. rw n, tt),
     ),
   ),

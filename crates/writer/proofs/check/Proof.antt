@@ -55,7 +55,7 @@ sub-count : tie.Need-sub-count
 sub-count c = there (c .before) .0
 
 part-count-start : tie.Need-part-count-start
-part-count-start c = search needs
+part-count-start c = there (c .before) .0
 
 part-count-end : tie.Need-part-count-end
 part-count-end c = search needs
