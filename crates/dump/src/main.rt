@@ -8,7 +8,7 @@ ghost use mathlib.Core.Bool.{true, false};
 ghost use Prim.Native.Nat.{_+_, _-_, _≤_};
 ghost use lib.ListN.{length, take, drop};
 ghost use Rattle.dump.specs.Stage.{isHungry, isTurning};
-ghost use Rattle.dump.specs.Ends.{Taken·in, Titled};
+ghost use Rattle.dump.specs.Ends.{Taken·in, Given·all, Titled};
 ghost use Rattle.dump.specs.Turn.{Held, Refilled, Turned};
 ghost use Rattle.dump.specs.Run.{Begun, Ran};
 use ends::Given;
@@ -129,6 +129,14 @@ fn refill(buf: &mut [u8], s: State) -> State
     }
 }
 
+// Hands over the text at the start of a buffer.
+fn flush(out: &[u8], put: usize) -> Given
+    requires { ⌜ put ≤ length (now out) ⌝ }
+    ensures { λ r. ⌜ Given·all put r ⌝ }
+{
+    ends::give(&out[..put])
+}
+
 // One turn: a read where it is wanted, and the records that are whole by then, whose text is handed over.
 fn turn(buf: &mut [u8], out: &mut [u8], s: State) -> State
     requires { ⌜ (length (now buf) ≡ 65536) × (length (now out) ≡ 65536) × Held s × (isTurning (s .stage) ≡ true) ⌝ }
@@ -149,7 +157,7 @@ fn turn(buf: &mut [u8], out: &mut [u8], s: State) -> State
     );
     let stage = r.stage;
     let got = held.got;
-    match ends::give(&out[..r.put]) {
+    match flush(out, r.put) {
         Given::Failed => turned(held, Stage::Failed),
         Given::All(sent) => State {
             filled,
@@ -170,7 +178,7 @@ fn title(out: &mut [u8]) -> Given
     ensures { λ r. ⌜ Titled (now (out .exit)) r ⌝ }
 {
     match lines::put_line(out, 0, Line::Title) {
-        Written::To(n) => ends::give(&out[..n]),
+        Written::To(n) => flush(out, n),
         // Never: there is room.
         Written::Refused(_) => Given::Failed,
     }

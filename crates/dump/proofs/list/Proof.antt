@@ -52,7 +52,7 @@ loop-again c =
     let t = c .before .before .before .before in
     let i = t .before .before .before in
     let l = i .before .before in
-    (search needs, search needs, t .turn .ensures .held, goes-on (l .loop .buf) _ _ (l .loop .s) (t .turn .result) (sym (i .before .turning .ensures) ∙ i .if1 .taken) (l .loop .inv .3) (t .turn .ensures))
+    (omega (arith, t .turn .kept .0, l .loop .inv .0), omega (arith, t .turn .kept .1 .0, l .loop .inv .1), t .turn .ensures .held, goes-on (l .loop .buf) _ _ (l .loop .s) (t .turn .result) (sym (i .before .turning .ensures) ∙ i .if1 .taken) (l .loop .inv .3) (t .turn .ensures))
 
 same-length : tie.Need-same-length Inv-loop μ-loop
 same-length c = let l = c .before .before in omega (arith, l .loop .inv .0, l .before .before .before .before .before .before .before .pre .0)

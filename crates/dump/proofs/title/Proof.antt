@@ -3,9 +3,8 @@
 use denote.Ref.{now}
 use Prim.Native.Nat.{_≤_}
 use native.Mathlib.Omega.{arith}
-use mathlib.Core.Path.{_≡_, sym, _∙_}
+use mathlib.Core.Path.{_≡_}
 use lib.ListN.{length, take}
-use lib.Seq.{length-take-le}
 use Rattle.output.proofs.Fitting.{told}
 use Rattle.output.proofs.Wrote.{start}
 use Rattle.lines.specs.declared.Line.the-variants.{Title}
@@ -34,14 +33,8 @@ there k =
     let w = told (now (a .args .out)) 0 (text Title) (p .put-line .ensures .1) (omega (arith, a .pre, p .put-line .ensures .0 .1)) (p .put-line .ensures .0 .0) (k .n .given .0 .0) (k .n .given .1) in
     record { within = omega (arith, w .ends, a .pre, p .put-line .ensures .0 .1, p .put-line .kept .0); line = start (now (a .args .out)) titleLine _ (k .n .given .0 .0) w }
 
-slice-reshare-prefix-give : tie.Need-slice-reshare-prefix-give
-slice-reshare-prefix-give c = there (c .before) .within
-
-slice-aggregate-give : tie.Need-slice-aggregate-give
-slice-aggregate-give c = sym (length-take-le _ _ (there (c .before .before) .within))
-
-give-requires : tie.Need-give-requires
-give-requires c κs = search needs
+flush-requires : tie.Need-flush-requires
+flush-requires c κs = there (c .before .before) .within
 
 enum-told : tie.Need-enum-told
 enum-told c = search needs
@@ -50,9 +43,7 @@ same-length : tie.Need-same-length
 same-length c = search needs
 
 returns : tie.Need-returns
-returns c =
-    let k = c .before .before .before in
-    titles _ (k .n .given .0 .0) (c .give .result) (there k .line) (rw (length-take-le _ _ (there k .within)) at (c .give .ensures))
+returns c = let k = c .before .before .before in titles _ (k .n .given .0 .0) (c .flush .result) (there k .line) (c .flush .ensures)
 
 same-length-2 : tie.Need-same-length-2
 same-length-2 c = search needs
@@ -66,9 +57,7 @@ title-spec =
     (tie.spec
     put-line-requires
     enum-known-n
-    slice-reshare-prefix-give
-    slice-aggregate-give
-    give-requires
+    flush-requires
     enum-told
     same-length
     returns

@@ -1,7 +1,6 @@
 -- `dump::turn` meets its contract: more bytes, the way in them, and its text.
 -- Assumes nothing.
 use denote.Ref.{now}
-use Prim.Native.Nat.{_≤_}
 use native.Mathlib.Omega.{arith}
 use mathlib.Core.Path.{_≡_, refl, sym, ap, _∙_}
 use lib.Seq.{length-take-le}
@@ -47,20 +46,8 @@ records-requires c κs =
     let long : length (take (p .refill .result .filled) (p .refill .last .0)) ≡ p .refill .result .filled = length-take-le (p .refill .result .filled) (p .refill .last .0) (omega (arith, v .room, p .refill .kept .0, a .pre .0)) in
     (omega (arith, long, v .inside), v .counted, a .pre .1, omega (arith, long, v .room, v .near))
 
-slice-reshare-prefix-give : tie.Need-slice-reshare-prefix-give
-slice-reshare-prefix-give c = search needs
-
--- the text is within its buffer
-fits : (q : tie.After-records) → q .records .result .put ≤ length (q .records .last .1 .0)
-fits q =
-    let a = q .before .before .before .before .before .before .before .before .before .before .before in
-    omega (arith, q .records .ensures .fits, q .records .kept .1 .0, a .pre .1)
-
-slice-aggregate-give : tie.Need-slice-aggregate-give
-slice-aggregate-give c = sym (length-take-le _ _ (fits (c .before .before .before .before)))
-
-give-requires : tie.Need-give-requires
-give-requires c κs = search needs
+flush-requires : tie.Need-flush-requires
+flush-requires c κs = search needs
 
 enum-told : tie.Need-enum-told
 enum-told c = search needs
@@ -100,8 +87,8 @@ returns-3 c =
     let g = i .before in
     let p = g .before .before .before in
     let a = p .before .before .before .before in
-    let all = rw (x .sent .given .1) at (y .give .ensures) in
-    turned (now (a .args .buf)) (p .refill .last .0) _ (a .args .s) (p .refill .result) (q .records .result) (x .sent .given .0 .0) (omega (arith, p .refill .kept .0, a .pre .0)) (p .refill .ensures) (sym (g .turning .ensures) ∙ not-false _ (i .if1 .left)) (q .records .ensures) (all ∙ length-take-le _ _ (fits q))
+    let all = rw (x .sent .given .1) at (y .flush .ensures) in
+    turned (now (a .args .buf)) (p .refill .last .0) _ (a .args .s) (p .refill .result) (q .records .result) (x .sent .given .0 .0) (omega (arith, p .refill .kept .0, a .pre .0)) (p .refill .ensures) (sym (g .turning .ensures) ∙ not-false _ (i .if1 .left)) (q .records .ensures) all
 
 pub turn-spec : {M : Type 1} → statement M
 turn-spec =
@@ -114,9 +101,7 @@ turn-spec =
     slice-reshare-prefix-records
     slice-aggregate-records
     records-requires
-    slice-reshare-prefix-give
-    slice-aggregate-give
-    give-requires
+    flush-requires
     enum-told
     turned-requires
     enum-known-sent
