@@ -10,12 +10,11 @@ use lib.ListN.{length, take, drop}
 use lib.Seq.{take-add, drop-at, length-take-le}
 use Rattle.capture.specs.Capture.{captureFrom}
 use Rattle.listing.specs.Whole.{restText}
-use Rattle.lines.specs.Text.{titleLine}
 use Rattle.dump.specs.declared.ends.Moved.{Moved}
 use Rattle.dump.specs.declared.ends.Taken.{Taken}
 use Rattle.dump.specs.declared.ends.Given.{Given}
 use Rattle.dump.specs.declared.ends.Given.the-variants as given
-use Rattle.dump.specs.Ends.{Taken·in, Given·all, Titled}
+use Rattle.dump.specs.Ends.{Taken·in, Given·all, Handed}
 use Rattle.dump.specs.declared.scan.Progress.{Progress}
 use Rattle.dump.specs.declared.scan.Stage.{Stage}
 use Rattle.dump.specs.declared.scan.Stage.the-variants.{Going, Full, Hungry, Done, Failed}
@@ -45,10 +44,13 @@ some (suc n) e = omega arith
 pub within : (m n : ℕ) (t : Taken) → m ≡ n → Taken·in m t → Taken·in n t
 within m n t e h = rw e at h
 
--- a text of so many bytes, all of which is handed over
-pub titles : (out : List ℕ) (n : ℕ) (g : Given) → take n out ≡ titleLine → Given·all n g → Titled out g
-titles out n (given.All m) e all = ap (λ (k : ℕ). take k out) all ∙ e
-titles out n given.Failed e all = tt
+-- all of so many bytes at the start of a buffer is handed over
+pub hands : (out : List ℕ) (n : ℕ) (g : Given) → Given·all n g → Handed out (take n out) g
+hands out n (given.All m) all = ap (λ (k : ℕ). take k out) all
+hands out n given.Failed all = tt
+
+pub told-as : (out a b : List ℕ) (g : Given) → a ≡ b → Handed out a g → Handed out b g
+told-as out a b g e h = rw e at h
 
 -- ---- more bytes
 -- the bytes from a place up to another
@@ -137,7 +139,7 @@ listed h p sent =
     }
 
 pub turned : (buf buf′ out : List ℕ) (s h : State) (p : Progress) (sent : Moved) → length buf′ ≡ 65536 → Refilled buf buf′ s h → isTurning (h .stage) ≡ true
-    → Scanned (h .place) (take (h .filled) buf′) (h .ended) (h .at) (h .count) out p → sent .bytes ≡ p .put → Turned buf buf′ out s (listed h p sent)
+    → Scanned (h .place) (take (h .filled) buf′) (h .ended) (h .at) (h .count) out p → take (sent .bytes) out ≡ take (p .put) out → Turned buf buf′ out s (listed h p sent)
 turned buf buf′ out s h p sent size v going w all =
     let long : length (take (h .filled) buf′) ≡ h .filled = length-take-le (h .filled) buf′ (omega (arith, v .held .room)) in
     record {

@@ -4,7 +4,6 @@ use Prim.Native.Nat.{ℕ, _≤_}
 use mathlib.Core.Path.{_≡_}
 use mathlib.Core.List.{List}
 use lib.ListN.{take}
-use Rattle.lines.specs.Text.{titleLine}
 use Rattle.dump.specs.declared.ends.Taken.{Taken}
 use Rattle.dump.specs.declared.ends.Taken.the-variants as taken
 use Rattle.dump.specs.declared.ends.Given.{Given}
@@ -20,7 +19,7 @@ abbrev pub Given·all : ℕ → Given → Type 0
 Given·all n (given.All m) = m .bytes ≡ n
 Given·all n given.Failed = Unit
 
--- the text that is handed over is the first line
-abbrev pub Titled : List ℕ → Given → Type 0
-Titled out (given.All m) = take (m .bytes) out ≡ titleLine
-Titled out given.Failed = Unit
+-- what is handed over, from the start of a buffer on, is a text
+abbrev pub Handed : List ℕ → List ℕ → Given → Type 0
+Handed out text (given.All m) = take (m .bytes) out ≡ text
+Handed out text given.Failed = Unit

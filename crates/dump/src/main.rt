@@ -7,8 +7,9 @@ ghost use mathlib.Core.Path.{_≡_};
 ghost use mathlib.Core.Bool.{true, false};
 ghost use Prim.Native.Nat.{_+_, _-_, _≤_};
 ghost use lib.ListN.{length, take, drop};
+ghost use Rattle.lines.specs.Text.{titleLine};
 ghost use Rattle.dump.specs.Stage.{isHungry, isTurning};
-ghost use Rattle.dump.specs.Ends.{Taken·in, Given·all, Titled};
+ghost use Rattle.dump.specs.Ends.{Taken·in, Handed};
 ghost use Rattle.dump.specs.Turn.{Held, Refilled, Turned};
 ghost use Rattle.dump.specs.Run.{Begun, Ran};
 use ends::Given;
@@ -132,7 +133,7 @@ fn refill(buf: &mut [u8], s: State) -> State
 // Hands over the text at the start of a buffer.
 fn flush(out: &[u8], put: usize) -> Given
     requires { ⌜ put ≤ length (now out) ⌝ }
-    ensures { λ r. ⌜ Given·all put r ⌝ }
+    ensures { λ r. ⌜ Handed (now (out .entry)) (take put (now (out .entry))) r ⌝ }
 {
     ends::give(&out[..put])
 }
@@ -175,7 +176,7 @@ fn turn(buf: &mut [u8], out: &mut [u8], s: State) -> State
 // The first line.
 fn title(out: &mut [u8]) -> Given
     requires { ⌜ 128 ≤ length (now out) ⌝ }
-    ensures { λ r. ⌜ Titled (now (out .exit)) r ⌝ }
+    ensures { λ r. ⌜ Handed (now (out .exit)) titleLine r ⌝ }
 {
     match lines::put_line(out, 0, Line::Title) {
         Written::To(n) => flush(out, n),

@@ -4,6 +4,7 @@ use denote.Ref.{now}
 use mathlib.Core.Path.{sym}
 use lib.Seq.{length-take-le}
 use borrow.Author.Needs.{needs}
+use Rattle.dump.proofs.Turns.{hands}
 use Rattle.dump.proofs.flush.Statement.{statement}
 use Rattle.dump.proofs.flush.Tie as tie
 
@@ -14,7 +15,9 @@ give-requires : tie.Need-give-requires
 give-requires c κs = search needs
 
 returns : tie.Need-returns
-returns c = let a = c .before .before .before in rw (length-take-le (a .args .put) (now (a .args .out)) (a .pre)) at (c .give .ensures)
+returns c =
+    let a = c .before .before .before in
+    hands (now (a .args .out)) (a .args .put) (c .give .result) (rw (length-take-le (a .args .put) (now (a .args .out)) (a .pre)) at (c .give .ensures))
 
 pub flush-spec : {M : Type 1} → statement M
 flush-spec = tie.close (tie.spec slice-aggregate-give give-requires returns)

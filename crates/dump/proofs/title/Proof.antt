@@ -10,7 +10,7 @@ use Rattle.output.proofs.Wrote.{start}
 use Rattle.lines.specs.declared.Line.the-variants.{Title}
 use Rattle.lines.specs.Line.{text}
 use Rattle.lines.specs.Text.{titleLine}
-use Rattle.dump.proofs.Turns.{titles}
+use Rattle.dump.proofs.Turns.{told-as}
 use borrow.Author.Needs.{needs}
 use Rattle.dump.proofs.title.Statement.{statement}
 use Rattle.dump.proofs.title.Tie as tie
@@ -34,7 +34,7 @@ there k =
     record { within = omega (arith, w .ends, a .pre, p .put-line .ensures .0 .1, p .put-line .kept .0); line = start (now (a .args .out)) titleLine _ (k .n .given .0 .0) w }
 
 flush-requires : tie.Need-flush-requires
-flush-requires c κs = there (c .before .before) .within
+flush-requires c κs = omega (arith, there (c .before .before) .within)
 
 enum-told : tie.Need-enum-told
 enum-told c = search needs
@@ -43,7 +43,7 @@ same-length : tie.Need-same-length
 same-length c = search needs
 
 returns : tie.Need-returns
-returns c = let k = c .before .before .before in titles _ (k .n .given .0 .0) (c .flush .result) (there k .line) (c .flush .ensures)
+returns c = let k = c .before .before .before in told-as _ _ titleLine (c .flush .result) (there k .line) (c .flush .ensures)
 
 same-length-2 : tie.Need-same-length-2
 same-length-2 c = search needs
