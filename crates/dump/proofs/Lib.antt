@@ -1,3 +1,4 @@
 pub mod Copies
+pub mod Run
 pub mod Steps
 pub mod Turns

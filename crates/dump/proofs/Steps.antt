@@ -28,8 +28,11 @@ use Rattle.lines.specs.Text.{recordsLine, stoppedLine}
 use Rattle.listing.specs.Packet.{recordText}
 use Rattle.listing.specs.Whole.{restText}
 use Rattle.listing.proofs.Whole.{on-stop, on-record-more, on-stop-more}
-use Rattle.dump.specs.declared.Progress.{Progress}
-use Rattle.dump.specs.Dump.{left, Record·put, Line·put, Stepped, Scanned}
+use Rattle.dump.specs.declared.scan.Progress.{Progress}
+use Rattle.dump.specs.declared.scan.Stage.{Stage}
+use Rattle.dump.specs.declared.scan.Stage.the-variants.{Going, Full, Hungry, Done, Failed}
+use Rattle.dump.specs.Stage.{isGoing, isHungry, isDone}
+use Rattle.dump.specs.Scan.{left, Record·put, Line·put, Stepped, Scanned}
 
 -- a place that 64 bits hold is told as it is
 pub plain : (base at : ℕ) → base + at < 9223372036854775808 → placeIn base at ≡ base + at
@@ -85,8 +88,8 @@ ends-here place count s h = let none = none-left s place h in on-stop count plac
 -- ---- some way in the bytes, in each case of a step
 module _ (place : ℕ) (bytes : List ℕ) (end : Bool) (out : List ℕ) (s : Progress) (inside : s .at ≤ length bytes) (counted : s .count ≤ place + s .at) where
   -- nothing is put
-  pub waits : (r : Progress) → s .put ≤ length out → r .at ≡ s .at → r .count ≡ s .count → r .put ≡ s .put → r .going ≡ false → r .done ≡ false
-      → (r .hungry ≡ true → (end ≡ false) × (length bytes ≤ s .at + 2084)) → (r .hungry ≡ false → length out < s .put + 33024)
+  pub waits : (r : Progress) → s .put ≤ length out → r .at ≡ s .at → r .count ≡ s .count → r .put ≡ s .put → isGoing (r .stage) ≡ false → isDone (r .stage) ≡ false
+      → (isHungry (r .stage) ≡ true → (end ≡ false) × (length bytes ≤ s .at + 2084)) → (isHungry (r .stage) ≡ false → length out < s .put + 33024)
       → Stepped place bytes end out out s r
   waits r fits at count put going done wants full =
       record {
@@ -98,7 +101,6 @@ module _ (place : ℕ) (bytes : List ℕ) (end : Bool) (out : List ℕ) (s : Pro
         fits = omega arith;
         more = λ d t. rw (at, count);
         last = λ d. absurd (false≢true (sym done ∙ d));
-        unfinished = λ g. absurd (false≢true (sym going ∙ g));
         still = λ e d. put;
         wants = λ h. (wants h .0, omega (arith, wants h .1));
         full = λ g h d. omega (arith, full h);
@@ -119,11 +121,10 @@ module _ (place : ℕ) (bytes : List ℕ) (end : Bool) (out : List ℕ) (s : Pro
         more = λ d t.
             on-record-more (s .count) (place + s .at) b t is
             ∙ rw (p .count, p .at, drop-drop (recordLen b) (s .at) bytes, add-assoc place (s .at) (recordLen b));
-        last = λ d. absurd (false≢true (sym (p .done) ∙ d));
-        unfinished = λ g. p .done;
+        last = λ d. absurd (false≢true (sym (ap isDone (p .stage)) ∙ d));
         still = λ e d. absurd (omega (arith, p .at));
-        wants = λ h. absurd (false≢true (sym (p .hungry) ∙ h));
-        full = λ g. absurd (false≢true (sym g ∙ p .going));
+        wants = λ h. absurd (false≢true (sym (ap isHungry (p .stage)) ∙ h));
+        full = λ g. absurd (false≢true (sym g ∙ ap isGoing (p .stage)));
       }
 
   -- the last line is put
@@ -137,18 +138,25 @@ module _ (place : ℕ) (bytes : List ℕ) (end : Bool) (out : List ℕ) (s : Pro
         text = l;
         wrote = p .wrote;
         fits = p .fits;
-        more = λ d. absurd (false≢true (sym d ∙ p .done));
+        more = λ d. absurd (false≢true (sym d ∙ ap isDone (p .stage)));
         last = λ d. e;
-        unfinished = λ g. absurd (false≢true (sym (p .going) ∙ g));
-        still = λ a d. absurd (false≢true (sym d ∙ p .done));
-        wants = λ h. absurd (false≢true (sym (p .hungry) ∙ h));
-        full = λ g h d. absurd (false≢true (sym d ∙ p .done));
+        still = λ a d. absurd (false≢true (sym d ∙ ap isDone (p .stage)));
+        wants = λ h. absurd (false≢true (sym (ap isHungry (p .stage)) ∙ h));
+        full = λ g h d. absurd (false≢true (sym d ∙ ap isDone (p .stage)));
       }
 
 -- where a way begins, and one way after another
+-- what goes on is not done
+going-undone : (k : Stage) → isGoing k ≡ true → isDone k ≡ false
+going-undone Going e = refl
+going-undone Full e = refl
+going-undone Hungry e = refl
+going-undone Done e = absurd (false≢true e)
+going-undone Failed e = refl
+
 pub begins : (place : ℕ) (bytes : List ℕ) (end : Bool) (out : List ℕ) (s : Progress) → s .at ≤ length bytes → s .count ≤ place + s .at → s .put ≤ length out
-    → s .going ≡ true → s .hungry ≡ false → s .done ≡ false → Stepped place bytes end out out s s
-begins place bytes end out s inside counted fits going hungry done =
+    → s .stage ≡ Going → Stepped place bytes end out out s s
+begins place bytes end out s inside counted fits stage =
     record {
       on = omega arith;
       within = inside;
@@ -157,17 +165,16 @@ begins place bytes end out s inside counted fits going hungry done =
       wrote = nothing out (s .put);
       fits = fits;
       more = λ d t. refl;
-      last = λ d. absurd (false≢true (sym done ∙ d));
-      unfinished = λ g. done;
+      last = λ d. absurd (false≢true (sym (ap isDone stage) ∙ d));
       still = λ e d. refl;
-      wants = λ h. absurd (false≢true (sym hungry ∙ h));
-      full = λ g. absurd (false≢true (sym g ∙ going));
+      wants = λ h. absurd (false≢true (sym (ap isHungry stage) ∙ h));
+      full = λ g. absurd (false≢true (sym g ∙ ap isGoing stage));
     }
 
 pub after : (place : ℕ) (bytes : List ℕ) (end : Bool) (out mid out′ : List ℕ) (s r q : Progress) → length mid ≡ length out
-    → Stepped place bytes end out mid s r → r .going ≡ true → Stepped place bytes end mid out′ r q → Stepped place bytes end out out′ s q
+    → Stepped place bytes end out mid s r → isGoing (r .stage) ≡ true → Stepped place bytes end mid out′ r q → Stepped place bytes end out out′ s q
 after place bytes end out mid out′ s r q same v going w =
-    let unfinished = v .unfinished going in
+    let unfinished = going-undone (r .stage) going in
     record {
       on = omega (arith, v .on, w .on);
       within = w .within;
@@ -177,7 +184,6 @@ after place bytes end out mid out′ s r q same v going w =
       fits = omega (arith, w .fits);
       more = λ d t. v .more unfinished t ∙ ap (λ (l : List ℕ). v .text ++ l) (w .more d t) ∙ sym (append-assoc (v .text) (w .text) (left place bytes (q .at) (q .count) t));
       last = λ d t e. v .more unfinished t ∙ ap (λ (l : List ℕ). v .text ++ l) (w .last d t e);
-      unfinished = w .unfinished;
       still = λ e d.
           let first : r .at ≡ s .at = omega (arith, v .on, w .on) in
           let second : q .at ≡ r .at = omega (arith, v .on, w .on) in
@@ -199,17 +205,16 @@ further a b h k = elim (decLe b a) [
 
 -- the way from an empty text on, to its end
 pub scanned : (place : ℕ) (bytes : List ℕ) (end : Bool) (out out′ : List ℕ) (s r : Progress) → length out ≡ 65536 → s .put ≡ 0
-    → Stepped place bytes end out out′ s r → r .going ≡ false → Scanned place bytes end (s .at) (s .count) out′ r
+    → Stepped place bytes end out out′ s r → isGoing (r .stage) ≡ false → Scanned place bytes end (s .at) (s .count) out′ r
 scanned place bytes end out out′ s r size none w stop =
+    let same : take (r .put) out′ ≡ w .text = start out (w .text) out′ (r .put) (rw none at (w .wrote)) in
     record {
       on = w .on;
       within = w .within;
       counted = w .counted;
-      text = w .text;
-      wrote = start out (w .text) out′ (r .put) (rw none at (w .wrote));
       fits = omega (arith, w .fits);
-      more = w .more;
-      last = w .last;
+      more = λ d t. w .more d t ∙ ap (λ (l : List ℕ). l ++ left place bytes (r .at) (r .count) t) (sym same);
+      last = λ d t e. w .last d t e ∙ sym same;
       wants = w .wants;
       moved = λ h d. further (s .at) (r .at) (w .on) (λ e. omega (arith, w .full stop h d, w .still e d));
     }

@@ -1,66 +1,37 @@
 -- `dump::fill` meets its contract: what is read goes behind the bytes that are held.
 -- Assumes nothing.
 use denote.Ref.{now}
+use Prim.Native.Nat.{_-_}
+use native.Mathlib.Omega.{arith}
+use lib.ListN.{length, drop, length-drop}
 use lib.Seq.{take-at, length-take-le}
+use Rattle.dump.proofs.Turns.{within}
 use borrow.Author.Needs.{needs}
 use Rattle.dump.proofs.fill.Statement.{statement}
 use Rattle.dump.proofs.fill.Tie as tie
 
-sub-part : tie.Need-sub-part
-sub-part c = search needs
+sub-take : tie.Need-sub-take
+sub-take c = search needs
 
-part-part-start : tie.Need-part-part-start
-part-part-start c = search needs
+part-take-start : tie.Need-part-take-start
+part-take-start c = search needs
 
-part-part-end : tie.Need-part-part-end
-part-part-end c = search needs
+part-take-end : tie.Need-part-take-end
+part-take-end c = search needs
 
-read-requires : tie.Need-read-requires
-read-requires c κs = search needs
+take-requires : tie.Need-take-requires
+take-requires c κs = search needs
 
 same-length : tie.Need-same-length
 same-length c = search needs
 
 returns : tie.Need-returns
 returns c =
-    let a = c .before .before .before .before .before .before .before .before .before in
-    (tt, take-at _ _ (a .args .filled) (length-take-le (a .args .filled) (now (a .args .buf)) (a .pre)))
-
-count-requires : tie.Need-count-requires
-count-requires c κs = search needs
-
-same-length-2 : tie.Need-same-length-2
-same-length-2 c = search needs
-
-returns-2 : tie.Need-returns-2
-returns-2 c =
-    let a = c .before .before .before .before .before .before .before .before .before .before .before .before in
-    (tt, take-at _ _ (a .args .filled) (length-take-le (a .args .filled) (now (a .args .buf)) (a .pre)))
-
-add-t7 : tie.Need-add-t7
-add-t7 c = search needs
-
-same-length-3 : tie.Need-same-length-3
-same-length-3 c = search needs
-
-returns-3 : tie.Need-returns-3
-returns-3 c =
-    let a = c .before .before .before .before .before .before .before .before .before .before .before .before in
-    (search needs, take-at _ _ (a .args .filled) (length-take-le (a .args .filled) (now (a .args .buf)) (a .pre)))
+    let t = c .before .before in
+    let a = t .before .before .before in
+    let long = length-take-le (length (now (a .args .buf)) - a .args .filled) (drop (a .args .filled) (now (a .args .buf))) (simp length-drop (omega arith)) in
+    (within _ _ (t .take .result) long (t .take .ensures), take-at _ _ (a .args .filled) (length-take-le (a .args .filled) (now (a .args .buf)) (a .pre)))
 
 pub fill-spec : {M : Type 1} → statement M
 fill-spec =
-    tie.close
-    (tie.spec
-    sub-part
-    part-part-start
-    part-part-end
-    read-requires
-    same-length
-    returns
-    count-requires
-    same-length-2
-    returns-2
-    add-t7
-    same-length-3
-    returns-3)
+    tie.close (tie.spec sub-take part-take-start part-take-end take-requires same-length returns)

@@ -1,12 +1,13 @@
--- `dump::turn` meets its contract: more bytes, and the way in them.
+-- `dump::turn` meets its contract: more bytes, the way in them, and its text.
 -- Assumes nothing.
 use denote.Ref.{now}
 use native.Mathlib.Omega.{arith}
-use mathlib.Core.Path.{_≡_, refl, sym}
+use mathlib.Core.Path.{_≡_, refl, sym, ap, _∙_}
 use lib.Seq.{length-take-le}
 use lib.ListN.{length, take}
 use borrow.Author.Tests.{not-true, not-false}
-use Rattle.dump.proofs.Turns.{turned, failing}
+use Rattle.dump.specs.Stage.{isHungry, isDone, isTurning}
+use Rattle.dump.proofs.Turns.{here, turned, failing}
 use borrow.Author.Needs.{needs}
 use Rattle.dump.proofs.turn.Statement.{statement}
 use Rattle.dump.proofs.turn.Tie as tie
@@ -14,39 +15,48 @@ use Rattle.dump.proofs.turn.Tie as tie
 refill-requires : tie.Need-refill-requires
 refill-requires c κs = search needs
 
+turning-requires : tie.Need-turning-requires
+turning-requires c κs = search needs
+
 same-length : tie.Need-same-length
 same-length c = search needs
 
 returns : tie.Need-returns
 returns c =
-    let p = c .before .before .before .before in
+    let g = c .before in
+    let p = g .before .before .before in
     let a = p .before .before .before .before in
     let v = p .refill .ensures in
-    let off = not-true _ (c .if1 .taken) in
-    failing (now (a .args .buf)) (p .refill .last .0) (a .args .s) (p .refill .result) (p .refill .result) (a .pre .2) v refl refl refl refl (v .idle off .0) (v .idle off .1) off
+    failing (now (a .args .buf)) (p .refill .last .0) _ (a .args .s) (p .refill .result) (p .refill .result) v (v .held) refl (v .undone) (sym (g .turning .ensures) ∙ not-true _ (c .if1 .taken))
 
-slice-reshare-prefix-scan : tie.Need-slice-reshare-prefix-scan
-slice-reshare-prefix-scan c = search needs
+slice-reshare-prefix-records : tie.Need-slice-reshare-prefix-records
+slice-reshare-prefix-records c = search needs
 
-slice-aggregate-scan : tie.Need-slice-aggregate-scan
-slice-aggregate-scan c =
+slice-aggregate-records : tie.Need-slice-aggregate-records
+slice-aggregate-records c =
     let p = c .before .before .before .before .before in
     let a = p .before .before .before .before in
-    sym (length-take-le (p .refill .result .filled) (p .refill .last .0) (omega (arith, p .refill .ensures .room, p .refill .kept .0, a .pre .0)))
+    sym (length-take-le (p .refill .result .filled) (p .refill .last .0) (omega (arith, p .refill .ensures .held .room, p .refill .kept .0, a .pre .0)))
 
-scan-requires : tie.Need-scan-requires
-scan-requires c κs =
+records-requires : tie.Need-records-requires
+records-requires c κs =
     let p = c .before .before .before .before .before .before in
     let a = p .before .before .before .before in
-    let v = p .refill .ensures in
+    let v = p .refill .ensures .held in
     let long : length (take (p .refill .result .filled) (p .refill .last .0)) ≡ p .refill .result .filled = length-take-le (p .refill .result .filled) (p .refill .last .0) (omega (arith, v .room, p .refill .kept .0, a .pre .0)) in
     (omega (arith, long, v .inside), v .counted, a .pre .1, omega (arith, long, v .room, v .near))
 
 flush-requires : tie.Need-flush-requires
 flush-requires c κs = search needs
 
-failed-requires : tie.Need-failed-requires
-failed-requires c κs = search needs
+enum-told : tie.Need-enum-told
+enum-told c = search needs
+
+turned-requires : tie.Need-turned-requires
+turned-requires c κs = search needs
+
+enum-known-sent : tie.Need-enum-known-sent
+enum-known-sent c = search needs
 
 same-length-2 : tie.Need-same-length-2
 same-length-2 c = search needs
@@ -56,11 +66,11 @@ same-length-3 c = search needs
 
 returns-2 : tie.Need-returns-2
 returns-2 c =
-    let q = c .before .before .before .before .before .before in
-    let p = q .before .before .before .before .before .before .before in
+    let p = c .before .before .before .before .before .before .before .before .before .before .before .before .before .before .before in
     let a = p .before .before .before .before in
-    let e = c .failed .ensures in
-    failing (now (a .args .buf)) (p .refill .last .0) (a .args .s) (p .refill .result) (c .failed .result) (a .pre .2) (p .refill .ensures) (e .0) (e .1) (e .2) (e .3) (e .4) (e .6) (e .7)
+    let e = c .turned .ensures in
+    let v = p .refill .ensures in
+    failing (now (a .args .buf)) (p .refill .last .0) _ (a .args .s) (p .refill .result) (c .turned .result) v (here (now (a .args .buf)) (p .refill .last .0) (p .refill .result) (c .turned .result) (v .held) (e .0) (e .1) (e .2) (e .3) (e .6) (ap isHungry (e .5))) (omega (arith, e .0, e .1, e .2)) (ap isDone (e .5)) (ap isTurning (e .5))
 
 same-length-4 : tie.Need-same-length-4
 same-length-4 c = search needs
@@ -70,24 +80,31 @@ same-length-5 c = search needs
 
 returns-3 : tie.Need-returns-3
 returns-3 c =
-    let q = c .before .before .before .before .before .before in
+    let x = c .before in
+    let y = x .before .before in
+    let q = y .before .before .before .before .before in
     let i = q .before .before .before in
-    let p = i .before .before .before .before in
+    let g = i .before in
+    let p = g .before .before .before in
     let a = p .before .before .before .before in
-    turned (now (a .args .buf)) (p .refill .last .0) _ (a .args .s) (p .refill .result) (q .scan .result) (omega (arith, p .refill .kept .0, a .pre .0)) (p .refill .ensures) (not-false _ (i .if1 .left)) (q .scan .ensures)
+    let all = rw (x .sent .given .1) at (y .flush .ensures) in
+    turned (now (a .args .buf)) (p .refill .last .0) _ (a .args .s) (p .refill .result) (q .records .result) (x .sent .given .0 .0) (omega (arith, p .refill .kept .0, a .pre .0)) (p .refill .ensures) (sym (g .turning .ensures) ∙ not-false _ (i .if1 .left)) (q .records .ensures) all
 
 pub turn-spec : {M : Type 1} → statement M
 turn-spec =
     tie.close
     (tie.spec
     refill-requires
+    turning-requires
     same-length
     returns
-    slice-reshare-prefix-scan
-    slice-aggregate-scan
-    scan-requires
+    slice-reshare-prefix-records
+    slice-aggregate-records
+    records-requires
     flush-requires
-    failed-requires
+    enum-told
+    turned-requires
+    enum-known-sent
     same-length-2
     same-length-3
     returns-2

@@ -1,4 +1,4 @@
--- `dump::list_record` meets its contract: the parts are where the answer says, and there is room.
+-- `dump::scan::list_record` meets its contract: the parts are where the answer says, and there is room.
 -- Assumes nothing.
 use denote.Ref.{now}
 use Prim.Native.Nat.{_+_, _≤_}
@@ -11,8 +11,8 @@ use Rattle.capture.proofs.Writing.{held}
 use Rattle.capture.specs.Record.{hopLimit, source, destination, packet}
 use Rattle.dump.proofs.Steps.{parts}
 use borrow.Author.Needs.{needs}
-use Rattle.dump.proofs.list_record.Statement.{statement}
-use Rattle.dump.proofs.list_record.Tie as tie
+use Rattle.dump.proofs.scan.list_record.Statement.{statement}
+use Rattle.dump.proofs.scan.list_record.Tie as tie
 
 add-count : tie.Need-add-count
 add-count c = search needs
@@ -37,6 +37,9 @@ enum-known-put c = search needs
 
 enum-told : tie.Need-enum-told
 enum-told c = search needs
+
+turned-requires : tie.Need-turned-requires
+turned-requires c κs = search needs
 
 same-length : tie.Need-same-length
 same-length c = search needs
@@ -75,20 +78,21 @@ returns c =
     let body = now (q .part .result) in
     let all = p .put-record .ensures .0 .1 (few q) in
     let w = told (now (a .args .out)) (a .args .s .put) (recordText (a .args .s .count + 1) (a .args .place + a .args .s .at) (a .args .found .«hop_limit») (d .address .result) (e .address2 .result) body) (rw (held body (few q)) at (p .put-record .ensures .1)) (omega (arith, a .pre .0, all)) (p .put-record .ensures .0 .0 ∙ held body (few q) _) (c .before .put .given .0 .0) (c .before .put .given .1) in
-    record { at = a .pre .1 .next; count = refl; wrote = rw (same q) at w; fits = omega (arith, w .ends, a .pre .0, all); going = refl; hungry = refl; done = refl }
+    record { at = a .pre .1 .next; count = refl; wrote = rw (same q) at w; fits = omega (arith, w .ends, a .pre .0, all); stage = refl }
 
 same-length-2 : tie.Need-same-length-2
 same-length-2 c = search needs
 
 returns-2 : tie.Need-returns-2
 returns-2 c =
-    let p = c .before .before .before .before in
+    let m = c .before in
+    let p = m .before .before .before .before in
     let q = p .before .before .before .before in
     let e = q .before in
     let d = e .before in
     let a = d .before .before .before .before in
     let body = now (q .part .result) in
-    absurd (not-full (now (a .args .out)) (a .args .s .put) (recordText (a .args .s .count + 1) (a .args .place + a .args .s .at) (a .args .found .«hop_limit») (d .address .result) (e .address2 .result) body) (rw (held body (few q)) at (p .put-record .ensures .1)) (omega (arith, a .pre .0, p .put-record .ensures .0 .1 (few q))) (p .put-record .ensures .0 .0 ∙ held body (few q) _) _ (c .enum-told .given .1))
+    absurd (not-full (now (a .args .out)) (a .args .s .put) (recordText (a .args .s .count + 1) (a .args .place + a .args .s .at) (a .args .found .«hop_limit») (d .address .result) (e .address2 .result) body) (rw (held body (few q)) at (p .put-record .ensures .1)) (omega (arith, a .pre .0, p .put-record .ensures .0 .1 (few q))) (p .put-record .ensures .0 .0 ∙ held body (few q) _) _ (m .enum-told .given .1))
 
 pub list-record-spec : {M : Type 1} → statement M
 list-record-spec =
@@ -102,6 +106,7 @@ list-record-spec =
     put-record-requires
     enum-known-put
     enum-told
+    turned-requires
     same-length
     returns
     same-length-2

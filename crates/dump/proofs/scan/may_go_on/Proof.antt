@@ -1,9 +1,9 @@
--- `dump::may_go_on` meets its contract: only 14 is of missing bytes.
+-- `dump::scan::may_go_on` meets its contract: only 14 is of missing bytes.
 -- Assumes nothing.
 use borrow.Author.Tests.{eqb-true, eqb-false}
 use mathlib.Core.Bool.{false≢true}
-use Rattle.dump.proofs.may_go_on.Statement.{statement}
-use Rattle.dump.proofs.may_go_on.Tie as tie
+use Rattle.dump.proofs.scan.may_go_on.Statement.{statement}
+use Rattle.dump.proofs.scan.may_go_on.Tie as tie
 
 returns : tie.Need-returns
 returns c = (λ e. absurd (false≢true e), λ e n. c .if1 .taken)
