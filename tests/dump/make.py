@@ -1,6 +1,7 @@
 #!/usr/bin/env python3
 """make.py: writes the stored cases, cases/NAME.rec with cases/NAME.txt beside it, the listing by model.py. Made from document 01's two packets, the
-packets that RFCs print, the shipped capture, and chance from a fixed seed."""
+packets that RFCs print, those on a boundary (boundaries.txt), the shipped capture, and chance from a fixed seed."""
+import ipaddress
 import os
 import random
 import shutil
@@ -61,6 +62,13 @@ for entry in open(here + "/published.txt").read().split("\n\nRFC ")[1:]:
     wanted += [f"record {len(wanted) + 1} at {len(printed)}\n" + lines.strip().replace("> ", "")]
     printed += record(packet, header[7], header[8:24], header[24:])
 case("published", printed, "\n".join(["icmp6 1", *wanted, f"records {len(wanted)}"]))
+printed, wanted = b"", []
+for entry in open(here + "/boundaries.txt").read().split("\n\nB")[1:]:
+    given, packet, lines = entry.split("\n", 1)[1].split("\n\n")
+    hops, source, destination = given.split()
+    wanted += [f"record {len(wanted) + 1} at {len(printed)}\n" + lines.strip().replace("> ", "")]
+    printed += record(bytes.fromhex(packet), int(hops), ipaddress.ip_address(source).packed, ipaddress.ip_address(destination).packed)
+case("boundaries", printed, "\n".join(["icmp6 1", *wanted, f"records {len(wanted)}"]))
 random.seed(20261115)
 mixed = []
 for _ in range(300):
