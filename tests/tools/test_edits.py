@@ -63,7 +63,7 @@ LOGS = [
      "note: src/lib.rt:9:5: it is not proved that the sum fits its type (at a range `..=n`, `n + 1`) (`add-result`)\n", "shows nothing"),
     ("a cast", "wire/high_byte_lost", "note: src/lib.rt:9:5: it is not proved that the value fits the type that it is cast to (`cast-t5`)\n", "shows nothing"),
     ("a division", "wire/high_byte_lost", PROOF.format("wire/high_byte_lost", "has_flag") + "error: `div-result`: `search`: no proof of `x`\n", "shows nothing"),
-    ("a loop without an end", "wire/high_byte_lost", PROOF.format("wire/high_byte_lost", "f") + "error: `loop-less`: `omega`: the goal does not follow\n", "shows nothing"),
+    ("a loop without an end", "wire/high_byte_lost", PROOF.format("wire/high_byte_lost", "f") + "error: `loop-less`: `omega`: the goal does not follow\n", None),
     ("a fact that the code does not have", "wire/high_byte_lost",
      PROOF.format("wire/high_byte_lost", "f") + "error: `room-requires`: `tie.Need-room-requires`: module `x` has no `Need-room-requires` that can be named from here\n",
      "shows nothing"),
