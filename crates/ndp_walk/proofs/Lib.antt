@@ -3,3 +3,4 @@ pub mod Walking
 pub mod Paths
 pub mod Laws
 pub mod Steps
+pub mod Missing
