@@ -1,4 +1,4 @@
-//! The calls of the excerpt, each as the numbers of its answer (FORMAT.md): first document 01's number of the refusal, 0 for none.
+//! The calls of the excerpt, each as the numbers of its answer (FORMAT.md): first the number of the refusal (docs/RULES.md N1 to N14), 0 for none.
 
 use etherparse::err::LenError;
 use etherparse::icmpv6::*;

@@ -451,7 +451,7 @@ fn walks(sink: &mut Sink) {
     }
 }
 
-/// The packets of a capture in document 01's record format, their option lists, and each option by itself.
+/// The packets of a capture (records of docs/RULES.md C1), their option lists, and each option by itself.
 pub fn traffic(sink: &mut Sink, capture: &[u8]) {
     let mut rest = capture;
     sink.every(6);

@@ -1,7 +1,7 @@
 #!/usr/bin/env python3
 """make_cases.py CAPTURES: writes `stdin` and `stdout` beside itself.
 
-stdin: records of document 01. First the table below, made by hand from RFC 4861, sections 6.1.1, 6.1.2, 7.1.1, 7.1.2 and 8.1: each rule at its
+stdin: records (docs/RULES.md C1). First the table below, made by hand from RFC 4861, sections 6.1.1, 6.1.2, 7.1.1, 7.1.2 and 8.1: each rule at its
 boundary, both ways, with the answer that is wanted written beside it. Then every record of CAPTURES/*.rec, real traffic, whose answer
 is worked out by `judge` below, which shares nothing with the proved check.
 stdout: the answers that are wanted, a line for each record."""
@@ -67,7 +67,7 @@ def spoilt(packet, source=NEAR, destination=NODES):
     return good[:2] + struct.pack(">H", (struct.unpack(">H", good[2:4])[0] + 1) % 65535) + good[4:]
 
 
-# ---- document 01's two packets
+# ---- the two packets of the listing in docs/RULES.md
 case(ACCEPTED, rs(SOURCE_LINK), NEAR, ROUTERS)
 case(reason(5), rs(bytes([1, 0, 2, 0, 0, 0, 0, 1])), NEAR, ROUTERS)
 
@@ -126,7 +126,7 @@ case(reason(5), ra(bytes([5, 2]) + bytes(14)))
 # 6.1.1 asks nothing of a solicitation's addresses
 case(ACCEPTED, rs(), NOBODY)
 case(ACCEPTED, rs(), FAR, FAR)
-# 6.1.2 and 8.1: a link-local source; document 01 has that begin fe 80
+# 6.1.2 and 8.1: a link-local source; here that begins fe 80 (docs/RULES.md R11)
 for make in [ra, redirect]:
     case(ACCEPTED, make(), "fe80::")
     case(ACCEPTED, make(), "fe80:ffff:ffff:ffff:ffff:ffff:ffff:ffff")

@@ -1,4 +1,4 @@
-/* Document 01's worked cases, every refusal with its numbers, and the edges: no bytes, the longest packets, places beyond the end. */
+/* The worked cases P1 to P13 of docs/RULES.md, every refusal with its numbers, and the edges: no bytes, the longest packets, places beyond the end. */
 #define _GNU_SOURCE
 #include "check.h"
 #include "plain.h"
@@ -111,7 +111,7 @@ static void worked(void) {
     same("P13, the other zero", brothladder_verify(b, n, none, none).answer, BROTHLADDER_VALID);
 }
 
-/* the two packets of document 01's dump */
+/* the two packets of the listing in docs/RULES.md */
 static void dumped(void) {
     uint8_t b[64];
     size_t n = hex("85 00 7a 2c 00 00 00 00 01 01 02 00 00 00 00 01", b);

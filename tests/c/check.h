@@ -39,7 +39,7 @@ struct refused {
 /* Whether an answer is this refusal, and says nothing else. */
 void refuses(const char *what, const void *answer, size_t size, uint32_t number, uint64_t v0, uint64_t v1, uint64_t v2, uint64_t v3);
 
-/* The bytes of a case, written as in document 01. */
+/* The bytes of a case, written as in docs/RULES.md. */
 size_t hex(const char *text, uint8_t *bytes);
 
 /* Option bytes that are refused, with the refusal. */
@@ -64,7 +64,7 @@ size_t some_options(uint8_t *p);
 size_t damage(uint8_t *p, size_t n);
 
 void fields(void);  /* where each field of a head stands */
-void cases(void);   /* document 01's worked cases, every refusal, edges */
+void cases(void);   /* the worked cases P1 to P13, every refusal, edges */
 void writes(void);  /* the packet writer */
 void joined(void);  /* option lists cut at every place */
 void damaged(void); /* 100,000 packets, random and damaged, beside plain.c */

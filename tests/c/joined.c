@@ -1,4 +1,4 @@
-/* Demand 3, run: option lists cut at every place. What the walk of the joined bytes hands out is worked out from the walks of the parts. */
+/* docs/RULES.md J1 to J5: option lists cut at every place. What the walk of the joined bytes hands out is worked out from the walks of the parts. */
 #include "check.h"
 #include <string.h>
 

@@ -1,4 +1,4 @@
-/* Plain C that gives the answers of brothladder.h, written from document 01, which the comments quote. */
+/* Plain C that gives the answers of brothladder.h, written from the rules (docs/RULES.md), which the comments name. */
 #include "plain.h"
 #include <stdbool.h>
 #include <string.h>
@@ -9,7 +9,7 @@ static uint32_t number(const uint8_t *p, int bytes) {
     return n;
 }
 
-/* "Types 1, 3, 4 need a listed code; the others need code 0." How many codes a type has, listed from 0 on. */
+/* H3: how many codes a type lists, from 0 on. */
 static int codes(int type) {
     switch (type) {
     case 1: return 7;
@@ -20,7 +20,7 @@ static int codes(int type) {
     }
 }
 
-/* "After the head 0 bytes for 133, 8 for 134, 16 for 135 and 136, 32 for 137." */
+/* H3: the length of a type's fixed part. */
 static size_t fixed_part(int type) {
     switch (type) {
     case 134: return 8;
@@ -53,8 +53,7 @@ struct brothladder_head plain_decode(const uint8_t *packet, size_t length) {
         h.field[0] = number(packet + 4, 4);
         return h;
     }
-    /* "Those bytes hold: 2 MTU; 4 pointer; 128, 129 identifier and sequence; 134 hop limit, flags (128 M, 64 O), lifetime;
-       136 flags (128 R, 64 S, 32 O)." */
+    /* H3: what bytes 4 to 7 hold. */
     switch (h.type) {
     case 2: case 4:
         h.field[0] = number(packet + 4, 4);
@@ -78,7 +77,7 @@ struct brothladder_head plain_decode(const uint8_t *packet, size_t length) {
     return h;
 }
 
-/* "Add as 16-bit words, high byte first; an odd last byte is the high half of a word with 0." */
+/* S1, without the carries. */
 static uint64_t words(uint64_t sum, const uint8_t *p, size_t n) {
     size_t i;
     for (i = 0; i + 1 < n; i += 2) sum += (uint32_t)p[i] << 8 | p[i + 1];
@@ -91,7 +90,7 @@ static uint32_t folded(uint64_t sum) {
     return (uint32_t)sum;
 }
 
-/* "source, destination, the packet length as 32 bits, 58" */
+/* S2, what stands before the packet. */
 static uint64_t pseudo_header(size_t length, const uint8_t *source, const uint8_t *destination) {
     return words(words(0, source, 16), destination, 16) + (length >> 16) + (length & 65535) + 58;
 }
@@ -114,7 +113,7 @@ struct brothladder_verified plain_verify(const uint8_t *packet, size_t length, c
     return v;
 }
 
-/* What stands at the head of option bytes that are left, in document 01's order. 0 for an option. */
+/* W4: the refusal of what stands at the head of the bytes that are left; 0 for an option. */
 static uint32_t bad_option(const uint8_t *p, size_t left, uint64_t value[4]) {
     value[0] = p[0];
     if (left < 2) return value[1] = 2, value[2] = left, 5;
@@ -209,7 +208,7 @@ struct brothladder_received plain_receive(const uint8_t *packet, size_t length, 
     return r;
 }
 
-/* "Unless the value is Unknown, bytes 4 to 7 of 1, 3, 133, 135, 137, and the reserved bits of 134 and 136, are written 0." */
+/* H8: bytes 4 to 7 as they are written. */
 static uint32_t kept(int type, int code, uint32_t bytes5to8) {
     if (code >= codes(type)) return bytes5to8;
     switch (type) {
@@ -245,8 +244,7 @@ struct brothladder_written plain_write(uint8_t type, uint8_t code, uint32_t byte
     return w;
 }
 
-/* Prefix option: 3, 4, prefix length, flags (128 on-link, 64 autonomous), valid and preferred lifetimes, 4 reserved bytes, 16 of
-   prefix. Another size is refusal 5, another head of 32 bytes refusal 8. */
+/* O1 and O4: a prefix information option. */
 struct brothladder_prefix plain_prefix(const uint8_t *option, size_t length) {
     struct brothladder_prefix p;
     memset(&p, 0, sizeof p);

@@ -1,4 +1,4 @@
-/* The same answers by plain C, written from document 01 and the RFCs alone, to compare with. */
+/* The same answers by plain C, written from the rules (docs/RULES.md) and the RFCs alone, to compare with. */
 #ifndef PLAIN_H
 #define PLAIN_H
 #include "brothladder.h"

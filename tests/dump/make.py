@@ -1,5 +1,5 @@
 #!/usr/bin/env python3
-"""make.py: writes the stored cases, cases/NAME.rec with cases/NAME.txt beside it, the listing by model.py. Made from document 01's two packets, the
+"""make.py: writes the stored cases, cases/NAME.rec with cases/NAME.txt beside it, the listing by model.py. Made from the worked example, the
 packets that RFCs print, those on a boundary (boundaries.txt), the shipped capture, and chance from a fixed seed."""
 import ipaddress
 import os
@@ -37,7 +37,7 @@ def case(name, capture, wanted=None):
 
 
 good = record(ONE) + record(TWO)
-case("document_01", good, "records 2")
+case("worked_example", good, "records 2")
 case("empty", b"", "records 0")
 case("one_byte", b"I", "stopped 14 at 0")
 case("one_byte_behind", good + b"I", "stopped 14 at 106")

@@ -1,5 +1,5 @@
 #!/usr/bin/env python3
-"""model.py: the dump's listing of a capture, written in Python from document 01 alone, to compare with. model.py FILE prints it."""
+"""model.py: the dump's listing of a capture, written in Python from the rules alone (docs/RULES.md), to compare with. model.py FILE prints it."""
 import sys
 
 WORDS = {1: "unreach", 2: "toobig", 3: "exceeded", 4: "param", 128: "echoreq", 129: "echorep", 133: "rs", 134: "ra", 135: "ns", 136: "na", 137: "redirect"}

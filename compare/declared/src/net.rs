@@ -1,4 +1,4 @@
-//! DECLARED: the number of ICMPv6 among the protocols (document 01, "The sum"). It is named after the sum has stopped only.
+//! DECLARED: the number of ICMPv6 among the protocols (docs/RULES.md S2). It is named after the sum has stopped only.
 
 pub mod ip_number {
     pub struct IpNumber(pub u8);

@@ -1,4 +1,4 @@
--- RFC 4291, section 2.4, and document 01, "The receive check": kinds of addresses by the bytes that they begin with.
+-- RFC 4291, section 2.4, and docs/RULES.md R11: kinds of addresses by the bytes that they begin with.
 -- Assumes nothing.
 use Prim.Native.Nat.{ℕ}
 use mathlib.Core.Bool.{Bool, _&&_}
@@ -19,7 +19,7 @@ unspecified a = begins (replicate 16 0) a
 abbrev pub multicast : List ℕ → Bool
 multicast a = begins (0xff ∷ []) a
 
--- document 01: begins fe 80 (section 2.4: fe80::/10)
+-- docs/RULES.md R11: begins fe 80 (section 2.4: fe80::/10)
 abbrev pub linkLocal : List ℕ → Bool
 linkLocal a = begins (0xfe ∷ 0x80 ∷ []) a
 

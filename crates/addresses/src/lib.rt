@@ -1,4 +1,4 @@
-// The kinds of IPv6 addresses (RFC 4291, section 2.4) that the receive check asks for, of bytes that an address begins.
+// Tests for the kinds of IPv6 addresses (RFC 4291, section 2.4; docs/RULES.md R11). Each looks at the bytes that a slice begins with.
 ghost use mathlib.Core.Path.{_≡_};
 ghost use Rattle.addresses.specs.Address.{same, unspecified, multicast, linkLocal, solicitedNode};
 use wire::begins_with;

@@ -1,4 +1,4 @@
--- What came, as the first number of every answer to C: all differ, and none is 0.
+-- The values of `answer`, the first field of every struct for C (docs/RULES.md X1). All differ, and none is 0.
 -- Assumes nothing.
 use Prim.Native.Nat.{ℕ}
 use mathlib.Core.List.{List, [], _∷_}

@@ -10,7 +10,7 @@ use icmpv6_headers::neighbor_advertisement_header::NeighborAdvertisementHeader;
 use icmpv6_headers::router_advertisement_header::RouterAdvertisementHeader;
 use packet_length::PacketLength;
 
-// Type, code and checksum are wider than their bytes, so that the struct has no hole.
+// Type, code and checksum are wider than their bytes, so that the struct has no padding.
 #[repr(C)]
 pub struct Head {
     pub answer: u32,

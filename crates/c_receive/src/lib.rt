@@ -1,4 +1,4 @@
-// The receive check, and where the options of a packet that passed it are.
+// The receive check. If a packet passes it, the answer says where its options are.
 ghost use mathlib.Core.Path.{_≡_};
 ghost use Rattle.receive.specs.Receive.{receiveOf};
 ghost use Rattle.c_receive.specs.Received.{receivedFor};

@@ -1,4 +1,4 @@
-// A step of the option walk. The caller feeds each step the place that the one before it answered.
+// A step of the option walk. The caller passes to each step the `next` of the step before it.
 ghost use mathlib.Core.Path.{_≡_};
 ghost use Rattle.ndp_options.specs.Walk.{stepOf};
 ghost use Rattle.ndp_options.specs.Told.{kindNumber};
@@ -7,7 +7,7 @@ use ndp_options::Cursor;
 use ndp_options::NdpOptionKind;
 use ndp_options::Step;
 
-// `next` of End and Stopped is the place that was fed: a walk that is over stays over.
+// `next` of End and Stopped is the place that was passed in: a walk that is over stays over.
 #[repr(C)]
 pub struct Stepped {
     pub answer: u32,

@@ -1,4 +1,4 @@
--- Document 01, "The dump and its records": mark 49 36, hop limit, source 16, destination 16, length 2 high byte first, packet.
+-- A record of a capture: its parts, and what is found at a place (docs/RULES.md C1 to C4, C7).
 -- Assumes nothing.
 use Prim.Native.Nat.{ℕ, _+_, _-_, _/_, _%_, _^_}
 use mathlib.Core.Bool.{Bool, cond, not}
@@ -38,9 +38,8 @@ addressAt s at = over (replicate 16 0) 0 (take 16 (drop at s))
 unfoldable pub recordBytes : ℕ → List ℕ → List ℕ → List ℕ → List ℕ
 recordBytes hop src dst p = mark ++ (hop ∷ []) ++ src ++ dst ++ (length p / 256 ∷ length p % 256 ∷ []) ++ p
 
--- What stands at the head of s, the bytes from a place of the capture to its end. In document 01's order: mark (12; 14 if under
--- 2 bytes remain), 37-byte head (14), length (13), body (14). Where no byte remains the capture ends. Told of a record: its hop limit
--- and its packet's length.
+-- What stands at the head of s, the bytes from a place of the capture to its end: the tests of C2, in its order. If no byte is left the
+-- capture ends. Told of a record: its hop limit and its packet's length.
 unfoldable pub recordOf : List ℕ → ℕ → Paper
 recordOf s place =
     cond (eqb (length s) 0) (gives [])

@@ -1,4 +1,4 @@
-// One record of a capture, read and written (document 01, "The dump and its records").
+// One record of a capture, read and written (docs/RULES.md C1 to C8).
 ghost use mathlib.Core.Path.{_≡_};
 ghost use Prim.Native.Nat.{_+_, _<_};
 ghost use lib.ListN.{length, take, drop};
@@ -30,7 +30,7 @@ pub enum Next {
 }
 
 // The record at a place of `capture`, whose own first byte is `base` bytes from the start of the whole capture.
-// A place beyond the bytes is refused like a record that is cut off; it is no end.
+// A place beyond the bytes is refused like a record that is cut off: it is not the end of the capture.
 pub fn next_record(capture: &[u8], at: usize, base: u64) -> Next
     ensures { λ r. ⌜ nextPaper r ≡ nextOf (now (capture .entry)) at base ⌝ }
 {
@@ -75,7 +75,7 @@ fn first_record(left: &[u8], at: usize, place: u64) -> Next
     })
 }
 
-// The bytes from a place on, `len` of them or as many as there are: how an address or the packet of a record is reached.
+// The bytes from a place on, `len` of them or as many as there are. Use it to get an address or the packet of a record.
 pub fn part<'a>(capture: &'a [u8], at: usize, len: usize) -> &'a [u8]
     ensures { λ r. ⌜ now r ≡ take len (drop at (now (capture .entry))) ⌝ }
 {
@@ -98,7 +98,7 @@ pub fn address(capture: &[u8], at: usize) -> [u8; 16]
     address
 }
 
-// Writes a record from its parts at the start of `out`, and nothing where it refuses.
+// Writes a record at the start of `out`. If it refuses it writes nothing.
 pub fn write_record(
     hop_limit: u8,
     source: &[u8; 16],

@@ -1,4 +1,4 @@
--- Document 01, "Cases with their results", P1 to P14: what each call answers, as one table over the definitions that the calls promise.
+-- docs/RULES.md P1 to P14, the worked cases: what each call answers, as one table over the definitions that the calls promise.
 -- Assumes nothing.
 use Prim.Native.Nat.{ℕ}
 use mathlib.Core.Path.{_≡_}

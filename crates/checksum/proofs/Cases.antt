@@ -19,7 +19,7 @@ router = 0xfe ∷ 0x80 ∷ (replicate 13 0 ++ 1 ∷ [])
 abbrev pub everyone : List ℕ
 everyone = 0xff ∷ 0x02 ∷ (replicate 13 0 ++ 2 ∷ [])
 
--- the first packet of document 01's listing with a field
+-- the packet of P11 and P12 with a field
 abbrev pub solicitation : ℕ → ℕ → List ℕ
 solicitation a b = 0x85 ∷ 0 ∷ a ∷ b ∷ 0 ∷ 0 ∷ 0 ∷ 0 ∷ 1 ∷ 1 ∷ 2 ∷ 0 ∷ 0 ∷ 0 ∷ 0 ∷ 1 ∷ []
 

@@ -60,7 +60,7 @@ module _ {source destination packet : List ℕ} (hs : Bytes source) (hd : Bytes 
 
   -- ---- what is computed, and what validates
 
-  -- the computed checksum is never 65,535
+  -- S5: no computed checksum is 65,535
   pub never-all-ones : checksumOf source destination packet < 65535
   never-all-ones = omega (arith, checksum-is, folded-positive (others-positive source destination packet))
 
@@ -68,7 +68,7 @@ module _ {source destination packet : List ℕ} (hs : Bytes source) (hd : Bytes 
   pub computed-validates : verdictOf source destination (withField packet (checksumOf source destination packet)) ≡ valid
   computed-validates = verdict-with (checksumOf source destination packet) ∙ simp (eq-eqb _ _ fills)
 
-  -- where the computed checksum is 0, a field of 65,535 validates too
+  -- S5: for a computed 0 a field of 65,535 validates as well
   pub other-zero-validates : checksumOf source destination packet ≡ 0 → verdictOf source destination (withField packet 65535) ≡ valid
   other-zero-validates z = verdict-with 65535 ∙ simp (eq-eqb _ _ (fills-twice z))
 
@@ -96,7 +96,7 @@ module _ {source destination packet : List ℕ} (hs : Bytes source) (hd : Bytes 
       passing-suc (λ f. isValid (verdictOf source destination (withField packet f))) 65535
       ∙ simp (passing-one (λ f. isValid (verdictOf source destination (withField packet f))) (checksumOf source destination packet) 65535 only-below never-all-ones, only-at-top)
 
--- a head of eight bytes with the computed checksum, and its payload within the limit, validates under the same addresses
+-- S6: a head of eight bytes that has the computed checksum validates with its payload
 pub sent-validates : {source destination head payload : List ℕ} → Bytes source → Bytes destination → Bytes head → Bytes payload → length head ≡ 8 → length payload ≤ payloadLimit
     → verdictOf source destination (withField head (checksumOf source destination (head ++ payload)) ++ payload) ≡ valid
 sent-validates {source} {destination} {head} {payload} hs hd hh hp eight l =

@@ -1,4 +1,4 @@
--- The checksum of ICMPv6 (RFC 4443, section 2.3) as document 01 words it under "The sum", and the answers of the public calls.
+-- The checksum of ICMPv6 (RFC 4443, section 2.3; docs/RULES.md S2 to S5), and the answers of the public calls.
 -- Assumes nothing.
 use Prim.Native.Nat.{ℕ, _-_, _/_, _%_}
 use mathlib.Core.Bool.{cond}
@@ -35,7 +35,7 @@ computedOf source destination head payload =
     cond (ltb payloadLimit (length payload)) (refuses 3 (payloadLimit ∷ length payload ∷ []))
     (gives (checksumOf source destination (head ++ payload) ∷ []))
 
--- a packet validates where its folded sum, field included, is 65,535; that is told by 1, and else 0
+-- S3: valid is told as 1, not valid as 0
 abbrev pub valid : Paper
 valid = gives (1 ∷ [])
 

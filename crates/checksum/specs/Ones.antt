@@ -10,7 +10,7 @@ infixl 65 _⊕_
 unfoldable pub _⊕_ : ℕ → ℕ → ℕ
 a ⊕ b = (a + b) % 65536 + (a + b) / 65536
 
--- section 1 (1): adjacent bytes paired to words, high byte first; an odd last byte is the high half of a word with 0
+-- section 1 (1): adjacent bytes paired to words, high byte first; a last byte without a second one is paired with 0
 abbrev pub words : List ℕ → List ℕ
 words [] = []
 words (a ∷ []) = word16 a 0 ∷ []

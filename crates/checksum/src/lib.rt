@@ -13,7 +13,7 @@ use refusal::Refusal;
 // The longest payload after a head of eight bytes: what the pseudo-header's length can say, less 8.
 const MAX_PAYLOAD_LEN: usize = 4294967287;
 
-// The bytes that are added up before the carries are taken round: their 32,768 words and a folded sum fit 32 bits.
+// How many bytes are added before the carries are folded: their 32,768 words and a folded sum fit 32 bits.
 const PIECE: usize = 65536;
 
 // The checksum of a packet that is to be sent.
@@ -22,14 +22,14 @@ pub enum Computed {
     Refused(Refusal),
 }
 
-// What the checksum of a packet says of it.
+// The verdict on the checksum of a packet.
 pub enum Verdict {
     Valid,
     Invalid,
     Refused(Refusal),
 }
 
-// The carries taken round until 16 bits are left: of 32 bits, two rounds do.
+// Adds the carries back in until 16 bits are left. For 32 bits two rounds are enough.
 fn fold(total: u32) -> u16
     ensures { λ r. ⌜ r ≡ folded total ⌝ }
 {
@@ -95,7 +95,7 @@ fn pseudo_total(source: &[u8; 16], destination: &[u8; 16], length: u32) -> u32
     part(source) + part(destination) + length / 65536 + length % 65536 + 58
 }
 
-// The checksum of the packet that a head, whatever stands in its field, and a payload make.
+// The checksum of the packet made of a head and a payload, whatever the head's checksum field holds.
 pub fn checksum_of(
     head: [u8; 8],
     payload: &[u8],
@@ -118,7 +118,7 @@ pub fn checksum_of(
     Computed::Checksum(65535 - fold(before + part(&zeroed) + part(payload)))
 }
 
-// Whether a packet's sum, its field included, is 65,535.
+// Verifies the checksum of a packet: whether its sum, with the field as it stands, is 65,535 (docs/RULES.md S3).
 pub fn verify(packet: &[u8], source: &[u8; 16], destination: &[u8; 16]) -> Verdict
     ensures { λ r. ⌜ verdict r ≡ verdictOf (now (source .entry)) (now (destination .entry)) (now (packet .entry)) ⌝ }
 {
@@ -136,7 +136,7 @@ pub fn verify(packet: &[u8], source: &[u8; 16], destination: &[u8; 16]) -> Verdi
     }
 }
 
-// Whether a packet validates; one that is refused does not.
+// Whether a packet validates. A packet that `verify` refuses does not.
 pub fn validates(packet: &[u8], source: &[u8; 16], destination: &[u8; 16]) -> bool
     ensures { λ r. ⌜ r ≡ isValid (verdictOf (now (source .entry)) (now (destination .entry)) (now (packet .entry))) ⌝ }
 {

@@ -1,5 +1,5 @@
-// Runs RFC 1071's worked example, document 01's cases P11 to P13 and the packets of real captures.
-// Standard input holds records (document 01, "The dump and its records"). A line for each has the checksum that is computed
+// Runs RFC 1071's worked example, the cases P11 to P13 of docs/RULES.md and the packets of real captures.
+// Standard input holds records (docs/RULES.md C1). A line for each has the checksum that is computed
 // for its packet and the verdict; then each of its bytes is inverted in turn, and no such packet may validate. At the end stands
 // how many headers that were read and given their checksum anew have the checksum that came in.
 ghost use Prim.Native.Nat.{_+_, _≤_};

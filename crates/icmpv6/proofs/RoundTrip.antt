@@ -1,4 +1,4 @@
--- Demand 2 for whole packets. A head that was read is written back without its reserved bits; a header that was written is read back,
+-- docs/RULES.md H11 and H12. A head that was read is written back without its reserved bits; a header that was written is read back,
 -- whatever payload follows it. From the same of the type value.
 -- Assumes nothing.
 use Prim.Native.Nat.{ℕ, _+_, _/_, _%_, _<_, _≤_}

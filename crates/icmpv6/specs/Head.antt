@@ -1,4 +1,4 @@
--- RFC 4443, section 2.1, and document 01, "The eight-byte head": byte 0 type, 1 code, 2 and 3 checksum, 4 to 7 by type.
+-- The head of a packet, read and written (RFC 4443, section 2.1; docs/RULES.md H1, H5, H6, H10).
 -- Assumes nothing.
 use Prim.Native.Nat.{ℕ}
 use mathlib.Core.List.{List, [], _∷_, _++_}

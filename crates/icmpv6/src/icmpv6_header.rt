@@ -57,7 +57,7 @@ impl Icmpv6Header {
         Icmpv6Header::MIN_LEN
     }
 
-    // The eight bytes of the header; what is reserved is written 0.
+    // The eight bytes of the header. Reserved bits are written 0.
     pub fn to_bytes(self) -> [u8; 8]
         ensures { λ r. ⌜ r ≡ encodeOf self ⌝ }
     {

@@ -1,4 +1,4 @@
-// The parts of a packet as they stand, without a reading of them.
+// The parts of a packet as they stand, not decoded.
 ghost use mathlib.Core.Path.{_≡_};
 ghost use lib.ListN.{drop};
 ghost use Rattle.icmpv6.specs.Head.{partsTold, partsOf};
@@ -32,7 +32,7 @@ pub fn head_parts(packet: &[u8]) -> Parts
     }
 }
 
-// What follows the head, as a part of the caller's slice; nothing of a packet that has no more than a head.
+// The bytes behind the head, as a part of the caller's slice. None if the packet has no more than a head. Refuses nothing (docs/RULES.md H9).
 pub fn payload(packet: &[u8]) -> &[u8]
     ensures { λ r. ⌜ now r ≡ drop 8 (now (packet .entry)) ⌝ }
 {

@@ -1,4 +1,4 @@
--- The checksum of a header record, as document 01 words it under "The sum".
+-- The checksum of a header record (docs/RULES.md S7 and S8).
 -- Assumes nothing.
 use Prim.Native.Nat.{ℕ}
 use mathlib.Core.Bool.{cond}

@@ -13,7 +13,7 @@ pub enum HeaderMade {
     Refused(Refusal),
 }
 
-// The checksum of the packet that a value and a payload make.
+// The checksum of the packet made of a value and a payload.
 pub fn calc_checksum(
     t: Icmpv6Type,
     payload: &[u8],
@@ -44,7 +44,7 @@ pub fn with_checksum(
     }
 }
 
-// The same, named as a value's own call.
+// The same under the crate's other name.
 pub fn to_header(
     t: Icmpv6Type,
     payload: &[u8],
@@ -69,7 +69,7 @@ fn computed_for(
     calc_checksum(t, payload, source, destination)
 }
 
-// A header with the checksum that was computed, or as it was where the answer refuses.
+// The header with the computed checksum, or unchanged if the answer refuses.
 fn with_answer(h: Icmpv6Header, answer: Computed) -> Icmpv6Header
     ensures { λ r. ⌜ headerTold r ≡ leaves (computed answer) (headerTold h) ⌝ }
 {
@@ -85,7 +85,7 @@ fn with_answer(h: Icmpv6Header, answer: Computed) -> Icmpv6Header
     }
 }
 
-// The checksum of a header that the caller owns is set in place; a refusal leaves the header as it was.
+// Sets the checksum field of the caller's header in place. A refusal leaves the header as it was.
 pub fn update_checksum(
     h: &mut Icmpv6Header,
     payload: &[u8],

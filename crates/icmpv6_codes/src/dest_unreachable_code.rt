@@ -26,7 +26,7 @@ pub enum DestUnreachableCode {
     RejectRoute,
 }
 
-// A code that is listed, or that none is.
+// A listed code, or none.
 pub enum DestUnreachableListing {
     Listed(DestUnreachableCode),
     NotListed,

@@ -38,7 +38,7 @@ pub enum ParameterProblemCode {
     OptionTooBig,
 }
 
-// A code that is listed, or that none is.
+// A listed code, or none.
 pub enum ParameterProblemListing {
     Listed(ParameterProblemCode),
     NotListed,

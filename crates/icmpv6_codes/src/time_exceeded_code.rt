@@ -11,7 +11,7 @@ pub enum TimeExceededCode {
     FragmentReassemblyTimeExceeded,
 }
 
-// A code that is listed, or that none is.
+// A listed code, or none.
 pub enum TimeExceededListing {
     Listed(TimeExceededCode),
     NotListed,

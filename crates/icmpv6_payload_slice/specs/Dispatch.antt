@@ -1,4 +1,4 @@
--- What a message is and where its parts are (RFC 4443, section 2.1; RFC 4861, sections 4.1 to 4.5), by its kind. Every layer that opens a
+-- docs/RULES.md K1 to K5: what a message is and where its parts are (RFC 4443, section 2.1; RFC 4861, sections 4.1 to 4.5), by its kind. Every layer that opens a
 -- message goes by this page. `base` is the place of the payload in the bytes that are given: 0 of a payload alone, 8 of a packet, whose head
 -- stands before it. Places count from the first of the bytes that are given; the numbers of refusal 4 count from the payload's first byte.
 -- Assumes nothing.

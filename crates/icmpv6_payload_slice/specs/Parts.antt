@@ -1,4 +1,4 @@
--- The addresses in the fixed part of a message (RFC 4861, sections 4.3 to 4.5): the target stands first, and a redirect's destination field
+-- docs/RULES.md K6: the addresses in the fixed part of a message (RFC 4861, sections 4.3 to 4.5): the target stands first, and a redirect's destination field
 -- behind it. `base` is the place of the payload in the bytes that are given.
 -- Assumes nothing.
 use Prim.Native.Nat.{ℕ, _+_, _*_}

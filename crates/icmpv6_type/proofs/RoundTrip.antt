@@ -1,5 +1,4 @@
--- Read then write gives back the head without its reserved bits; write then read gives back the value, unless it is an Unknown that
--- names a known pair. Both go by the rows of the table.
+-- docs/RULES.md H11 and H12 for the value of a head. Both go by the rows of the table.
 -- Assumes nothing.
 use Prim.Native.Nat.{ℕ, zero, suc, _<_}
 use mathlib.Core.Bool.{Bool, true, false, cond}
@@ -64,7 +63,7 @@ module _ (p q r s : ℕ) (hp : p < 256) (hq : q < 256) (hr : r < 256) (hs : s < 
   known-written neighborAdvertisement = (refl, refl, neighbor-read p q r s hp hq hr hs ∙ simp (clear-all q hq, clear-all r hr, clear-all s hs))
   known-written redirect = (refl, refl, dropped)
 
-  -- demand 2, the head: what is read of a type, a code and bytes 4 to 7 is written as the same type and code, and those bytes without
+  -- docs/RULES.md H11: what is read of a type, a code and bytes 4 to 7 is written as the same type and code, and those bytes without
   -- their reserved bits
   module _ (k c : ℕ) where
     pub by-table : (b : Bool) → known k c ≡ b → Written (typeFrom (typeOf k c four)) k c (cleared k c four)

@@ -1,5 +1,5 @@
--- Document 01, "The eight-byte head": bytes 4 to 7 of types 1, 3, 133, 135, 137 and the reserved bits of 134 and 136 are dropped on
--- reading and written 0, unless the value is Unknown. In each byte the reserved bits are its lowest.
+-- docs/RULES.md H8: the reserved bits of bytes 4 to 7, which a known pair is read without and which are written 0. In each byte they are
+-- its lowest.
 -- Assumes nothing.
 use Prim.Native.Nat.{ℕ, _<_}
 use mathlib.Core.Bool.{Bool, cond, _&&_}

@@ -1,4 +1,4 @@
--- The value that a head stands for (RFC 4443, sections 2.1, 3 and 4; RFC 4861, section 4; document 01, "The eight-byte head"), told as
+-- The value that a head stands for (RFC 4443, sections 2.1, 3 and 4; RFC 4861, section 4; docs/RULES.md H3, H5, H6), told as
 -- numbers: 0 with type, code and bytes 4 to 7 where it is Unknown, else the type and what its bytes hold.
 -- Assumes nothing.
 use Prim.Native.Nat.{ℕ}

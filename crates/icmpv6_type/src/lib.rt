@@ -1,4 +1,4 @@
-// The value that the first eight bytes of an ICMPv6 packet stand for, without the checksum.
+// The value of a packet's eight-byte head, without the checksum.
 ghost use mathlib.Core.Path.{_≡_};
 ghost use Rattle.icmpv6_type.specs.Value.{typeTold, typeOf, kindNumber, typeNumber, codeNumber, fieldBytes};
 use icmpv6_codes::dest_unreachable_code::DestUnreachableCode;
@@ -12,7 +12,7 @@ use icmpv6_headers::neighbor_advertisement_header::NeighborAdvertisementHeader;
 use icmpv6_headers::router_advertisement_header::RouterAdvertisementHeader;
 use message_table::types;
 
-// A parameter problem's code, and the place of the trouble in the packet that caused it.
+// A parameter problem: its code, and the place of the error in the packet that caused it.
 pub struct ParameterProblemHeader {
     pub code: ParameterProblemCode,
     pub pointer: u32,
@@ -112,7 +112,7 @@ impl Icmpv6Type {
         }
     }
 
-    // The kind of the value: its type, and 0 of an Unknown, whatever type that names.
+    // The kind of the value: its type, or 0 if it is Unknown, whatever type that names.
     pub fn kind_u8(self) -> u8
         ensures { λ r. ⌜ r ≡ kindNumber self ⌝ }
     {
@@ -153,7 +153,7 @@ impl Icmpv6Type {
         }
     }
 
-    // Bytes 4 to 7 of the head as they are written: what is reserved is 0.
+    // Bytes 4 to 7 of the head as they are written. Reserved bits are 0.
     pub fn bytes5to8(self) -> [u8; 4]
         ensures { λ r. ⌜ r ≡ fieldBytes self ⌝ }
     {

@@ -1,4 +1,4 @@
--- Lines by computation: those of document 01's listing, the largest number, and a capture that is refused.
+-- Lines by computation: those of the listing in docs/RULES.md, the largest number, and a capture that is refused.
 -- Assumes nothing.
 use mathlib.Core.Path.{_≡_, refl}
 use mathlib.Core.Bool.{true}

@@ -1,4 +1,4 @@
--- The lines of document 01's listing, each as a text in ASCII that ends in a newline. The sum is hexadecimal, all else decimal.
+-- The lines of a listing (docs/RULES.md D1 to D7), each as a text in ASCII that ends in a newline. Numbers are decimal, but for the checksum field.
 -- Assumes nothing.
 use Prim.Native.Nat.{ℕ, zero, suc}
 use Prim.Native.Char.{code}

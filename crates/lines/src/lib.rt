@@ -1,4 +1,4 @@
-// The lines of the dump, written into a lent buffer (document 01, "The dump and its records").
+// The lines of the dump, written into a lent buffer (docs/RULES.md D1 to D9).
 ghost use mathlib.Core.Path.{_≡_};
 ghost use mathlib.Core.List.{[], _∷_, _++_};
 ghost use Prim.Native.Nat.{_+_, _≤_, _<_};
@@ -49,10 +49,10 @@ pub enum Line {
     },
 }
 
-// No line has more bytes.
+// The longest line, in bytes.
 pub const LONGEST: usize = 128;
 
-// Puts a line over the bytes from a place on, or nothing where it does not fit whole: the place after it, or refusal 9.
+// Writes a line at a place of `out` and returns the place behind it. If the line does not fit it writes nothing and returns refusal 9.
 pub fn put_line(out: &mut [u8], at: usize, line: Line) -> Written
     ensures answers { λ r. ⌜ (writtenTold r ≡ roomFor (length (text line)) (now (out .entry)) at) × (length (text line) ≤ 128) ⌝ }
     ensures lent { λ r. ⌜ now (out .exit) ≡ leaves (roomFor (length (text line)) (now (out .entry)) at) (now (out .entry)) at (text line) ⌝ }
@@ -65,7 +65,7 @@ pub fn put_line(out: &mut [u8], at: usize, line: Line) -> Written
     output::put(out, at, &own[..n])
 }
 
-// Each of the following puts its text over the bytes from a place on, and answers the place after it.
+// Each of the following writes its text at a place of `out` and returns the place behind it.
 fn put_text(out: &mut [u8], at: usize, line: Line) -> usize
     requires { ⌜ at + 128 ≤ length (now out) ⌝ }
     ensures wrote { λ r. ⌜ Wrote (now (out .entry)) at (text line) (now (out .exit)) r ⌝ }

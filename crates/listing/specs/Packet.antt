@@ -1,4 +1,4 @@
--- The text of one record, over the dispatch, the verdict, the receive check and the option walk.
+-- docs/RULES.md D2 to D6, D9: the text of one record, over the dispatch, the verdict, the receive check and the option walk.
 -- Assumes nothing.
 use Prim.Native.Nat.{ℕ, _+_}
 use mathlib.Core.Bool.{cond}

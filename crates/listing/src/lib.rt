@@ -17,10 +17,10 @@ use ndp_options::Step;
 use output::Written;
 use refusal::Refusal;
 
-// No record's text has more bytes: three lines, and one for every eight bytes of options.
+// The longest text of a record, in bytes: three lines, and one for every eight bytes of options.
 pub const ROOM: usize = 33024;
 
-// Puts the text of a record over the bytes from a place on, or nothing where it refuses: the place after it, refusal 13 or 9.
+// Writes the text of a record at a place of `out` and returns the place behind it. If it refuses (13, then 9) it writes nothing.
 pub fn put_record(
     out: &mut [u8],
     at: usize,
@@ -64,7 +64,7 @@ pub fn put_record(
     output::put(out, at, &own[..n])
 }
 
-// Each of the following puts its text over the bytes from a place on, and answers the place after it.
+// Each of the following writes its text at a place of `out` and returns the place behind it.
 fn put_text(
     out: &mut [u8],
     at: usize,

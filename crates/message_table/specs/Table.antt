@@ -1,4 +1,4 @@
--- Document 01, "The eight-byte head": the known types (RFC 4443, sections 3 and 4; RFC 4861, section 4), the codes that each has, and
+-- docs/RULES.md H3: the known types (RFC 4443, sections 3 and 4; RFC 4861, section 4), the codes that each has, and
 -- the length of the fixed part that stands between the head and the options.
 -- Assumes nothing.
 use Prim.Native.Nat.{ℕ}

@@ -1,4 +1,4 @@
-// The known message types as one table, which decoder, dispatch, writer and receive check ask.
+// The known message types (docs/RULES.md H3): the one table that decoder, dispatch, writer and receive check ask.
 ghost use mathlib.Core.Path.{_≡_};
 ghost use Rattle.message_table.specs.Table.{rows, rowOf, known, fixedLen, isNdp};
 
@@ -69,7 +69,7 @@ pub const ROWS: [Row; 11] = [
     },
 ];
 
-// The row of a type; of one that the table does not have, a row with no code and no fixed part.
+// The row of a type. A type that the table does not have gets a row without codes and without a fixed part.
 fn row_of(kind: u8) -> Row
     ensures { λ r. ⌜ r ≡ rowOf rows kind ⌝ }
 {
@@ -97,7 +97,7 @@ pub fn is_known(kind: u8, code: u8) -> bool
     code < row.codes
 }
 
-// The bytes of a type's fixed part, whatever the code; none of a type that the table does not have.
+// The length of a type's fixed part, whatever the code; 0 if the table does not have the type.
 pub fn fixed_len(kind: u8) -> usize
     ensures { λ r. ⌜ r ≡ fixedLen kind ⌝ }
 {

@@ -1,4 +1,4 @@
-// The readers of single Neighbor Discovery options (RFC 4861, section 4.6), each by itself: a file for each option. Port of ndp_option/mod.rs.
+// Readers of single Neighbor Discovery options (RFC 4861, section 4.6; docs/RULES.md O1 to O8), one file for each option. Port of ndp_option/mod.rs.
 ghost use mathlib.Core.Path.{_≡_};
 ghost use Rattle.ndp_option_read.specs.Rule.{readTold, partFrom};
 use ndp_option_read::NdpOptionRead;
@@ -8,7 +8,7 @@ pub mod mtu_option;
 pub mod redirected_header_option;
 pub mod unknown_option;
 
-// The bytes of an option from a place on, and none of one that is refused.
+// The bytes of an option from a place on; none if the option is refused.
 fn part(read: NdpOptionRead, slice: &[u8], from: usize) -> &[u8]
     ensures { λ r. ⌜ now r ≡ partFrom from (readTold read) (now (slice .entry)) ⌝ }
 {

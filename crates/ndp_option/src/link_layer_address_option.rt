@@ -28,7 +28,7 @@ impl LinkLayerAddressOption {
         ndp_option_read::sized(self.option_type(), slice)
     }
 
-    // The address, with the padding that may stand behind it; no bytes of an option that is refused.
+    // The address with any padding behind it; no bytes if the option is refused.
     pub fn link_layer_address(self, slice: &[u8]) -> &[u8]
         ensures { λ r. ⌜ now r ≡ partFrom 2 (sizedOf (typeOf self) (now (slice .entry))) (now (slice .entry)) ⌝ }
     {

@@ -15,7 +15,7 @@ pub fn from_slice(slice: &[u8]) -> NdpOptionRead
     ndp_option_read::sized(REDIRECTED_HEADER, slice)
 }
 
-// The redirected packet, with the padding that may stand behind it; no bytes of an option that is refused.
+// The redirected packet with any padding behind it; no bytes if the option is refused.
 pub fn redirected_packet(slice: &[u8]) -> &[u8]
     ensures { λ r. ⌜ now r ≡ partFrom 8 (sizedOf 4 (now (slice .entry))) (now (slice .entry)) ⌝ }
 {

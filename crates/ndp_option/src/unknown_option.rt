@@ -1,4 +1,4 @@
-// An option whose type is not looked at: handed out as it stands. For unknown_ndp_option_slice.rs (docs/DECISIONS.md).
+// An option of any type. For unknown_ndp_option_slice.rs (docs/DECISIONS.md).
 ghost use mathlib.Core.Path.{_≡_};
 ghost use lib.ListN.{getD};
 ghost use Rattle.ndp_option_read.specs.Rule.{readTold, sizedOf};

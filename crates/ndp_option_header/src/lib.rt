@@ -60,7 +60,7 @@ impl NdpOptionHeader {
     }
 }
 
-// The bytes behind the header: none where there is no whole header.
+// The bytes behind the header; none if the header is not whole.
 pub fn behind_header(slice: &[u8]) -> &[u8]
     ensures { λ r. ⌜ now r ≡ drop 2 (now (slice .entry)) ⌝ }
 {

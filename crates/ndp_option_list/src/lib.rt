@@ -1,4 +1,4 @@
-// A whole list of options: how many there are, and whether one of a type occurs. A list whose walk is refused gets the refusal and its place.
+// Calls over a whole list of options: how many there are, and whether one has a type. A list that is refused gets the refusal and its place.
 ghost use mathlib.Core.Path.{_≡_};
 ghost use mathlib.Core.Bool.{true, cond};
 ghost use lib.Dec.{eqb};
@@ -66,7 +66,7 @@ fn walk_all(options: &[u8], wanted: NdpOptionType) -> Tally
     }
 }
 
-// How many options the bytes are, or the refusal and its place.
+// How many options the list has, or the refusal and its place.
 pub fn count(options: &[u8]) -> Counted
     ensures { λ r. ⌜ countTold r ≡ countOf (now (options .entry)) ⌝ }
 {
@@ -76,7 +76,7 @@ pub fn count(options: &[u8]) -> Counted
     }
 }
 
-// Whether an option of the type occurs, or the refusal and its place: of a refused walk it is not known.
+// Whether the list has an option of the type, or the refusal and its place: of a refused list it is not known.
 pub fn has_type(options: &[u8], wanted: NdpOptionType) -> Occurs
     ensures { λ r. ⌜ occursTold r ≡ occursOf (wanted .0) (now (options .entry)) ⌝ }
 {

@@ -1,4 +1,4 @@
--- How an option is read by itself: the two rules that its readers share, each test in document 01's order.
+-- How an option is read by itself: the two rules that its readers share, each test in the order of docs/RULES.md O1 and O2.
 -- Assumes nothing.
 use Prim.Native.Nat.{ℕ}
 use mathlib.Core.Bool.{Bool, cond, not, _||_}
@@ -25,13 +25,13 @@ headed id units s =
     cond (differ (getD s 0 0) id || differ (getD s 1 0) units) (refuses 8 (id ∷ getD s 0 0 ∷ units ∷ getD s 1 0 ∷ []))
     (gives [])
 
--- an option of a fixed size: the size, then the header
+-- O1, an option of a fixed size: the size, then the header
 unfoldable pub exactlyOf : ℕ → ℕ → List ℕ → Paper
 exactlyOf id units s =
     cond (differ (length s) (bytesOf units)) (refuses 5 (id ∷ bytesOf units ∷ length s ∷ []))
     (headed id units s)
 
--- an option of any size: under 8 bytes, type, unit 0, size not 8 times the unit. Refusal 8 repeats the actual unit as the expected one
+-- O2, an option of any size. Refusal 8 has the found units twice, since none are expected
 unfoldable pub sizedOf : ℕ → List ℕ → Paper
 sizedOf id s =
     cond (ltb (length s) 8) (refuses 5 (id ∷ 8 ∷ length s ∷ []))

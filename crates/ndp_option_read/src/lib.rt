@@ -10,13 +10,13 @@ use refusal::LengthUnits;
 use refusal::NdpOptionType;
 use refusal::Refusal;
 
-// Whether an option is one of its kind. What it says is read by another call, or stands beside.
+// Whether an option passes its rule. Its contents are read by another call, or stand beside the answer.
 pub enum NdpOptionRead {
     Accepted,
     Refused(Refusal),
 }
 
-// An option of a fixed size: its bytes, then its header.
+// An option of a fixed size (docs/RULES.md O1): its number of bytes, then its header.
 pub fn exactly(id: NdpOptionType, units: LengthUnits, slice: &[u8]) -> NdpOptionRead
     ensures { λ r. ⌜ readTold r ≡ exactlyOf (id .0) (units .0) (now (slice .entry)) ⌝ }
 {
@@ -47,8 +47,8 @@ pub fn exactly(id: NdpOptionType, units: LengthUnits, slice: &[u8]) -> NdpOption
     NdpOptionRead::Accepted
 }
 
-// An option of any size: a unit's bytes at least, its type, a length that is not 0, and the bytes that it says.
-// It has no number of units to expect, so where the type is another the actual one is told twice.
+// An option of any size (docs/RULES.md O2): at least 8 bytes, its type, a length that is not 0, and as many bytes as that says. It has no
+// number of units to expect, so refusal 8 carries the found one twice.
 pub fn sized(id: NdpOptionType, slice: &[u8]) -> NdpOptionRead
     ensures { λ r. ⌜ readTold r ≡ sizedOf (id .0) (now (slice .entry)) ⌝ }
 {

@@ -1,4 +1,4 @@
--- Document 01's cases of the walk, P4 to P7, and one of each other answer: a table of bytes with what comes of them, and one statement over it.
+-- The cases P4 to P7 of docs/RULES.md, and one of each other answer: a table of bytes with what comes of them, and one statement over it.
 -- Assumes nothing.
 use Prim.Native.Nat.{ℕ}
 use mathlib.Core.Path.{_≡_, refl}

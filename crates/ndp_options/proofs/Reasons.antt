@@ -1,4 +1,4 @@
--- The reasons for which document 01's walk is refused, one for each of its four tests.
+-- The reasons for which a walk is refused, one for each of the four tests of docs/RULES.md W4.
 -- Assumes nothing.
 use Prim.Native.Nat.{ℕ, _+_, _≤_}
 use mathlib.Core.Path.{_≡_, refl, subst}

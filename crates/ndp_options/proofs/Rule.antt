@@ -1,4 +1,4 @@
--- Document 01's rule at the head of a rest, from the header that was read there: the rule looks at the type and the length alone.
+-- The types' rule (docs/RULES.md W4) at the head of a rest, from the header that was read there: it looks at the type and the length alone.
 -- Assumes nothing.
 use Prim.Native.Nat.{ℕ, _≤_, _<_}
 use mathlib.Core.Path.{_≡_, sym, _∙_}

@@ -1,4 +1,4 @@
--- Document 01, "The option walk": types 1, 2 link-layer; 3 exactly 32 bytes; 4 any length; 5 MTU, one unit by RFC 4861; others unknown.
+-- The types' own rule (docs/RULES.md W4 and W5; RFC 4861, section 4.6): the kind of each type, and how many bytes it must have.
 -- Assumes nothing.
 use Prim.Native.Nat.{ℕ}
 use mathlib.Core.Bool.{cond}
@@ -12,7 +12,7 @@ use Rattle.ndp_walk.specs.Judge.{Rule, Ruling, Fits, Misfits}
 abbrev pub kindOf : ℕ → ℕ
 kindOf type = cond (ltb 5 type) 0 type
 
--- the bytes that a type asks of an option of so many: these same, where any length will do
+-- the length that a type requires of an option of `len` bytes: the required length, or `len` itself where any length is allowed
 abbrev pub askedOf : ℕ → ℕ → ℕ
 askedOf type len = cond (eqb type 3) 32 (cond (eqb type 5) 8 len)
 

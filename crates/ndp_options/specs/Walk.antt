@@ -1,4 +1,4 @@
--- Document 01's walk, and a step of it: those of its rule.
+-- The walk of docs/RULES.md, W1 to W6, and a step of it: those of the types' own rule.
 -- Assumes nothing.
 use Prim.Native.Nat.{ℕ}
 use mathlib.Core.List.{List}

@@ -1,4 +1,4 @@
-// The option walk of Neighbor Discovery (RFC 4861, section 4.6; document 01, "The option walk"), as a cursor by value over the option bytes.
+// The option walk of Neighbor Discovery (RFC 4861, section 4.6; docs/RULES.md W1 to W6), as a cursor by value over the option bytes.
 // Port of ndp_options_iterator.rs, with the two endings of a walk told apart: `End` at the end, `Stopped` after a refusal.
 ghost use mathlib.Core.Path.{_≡_};
 ghost use lib.ListN.{drop, take};
@@ -63,7 +63,7 @@ fn kind_of(id: NdpOptionType) -> NdpOptionKind
     }
 }
 
-// The bytes that a type asks of an option of `len` bytes: these same, where any length will do.
+// The length that a type requires of an option of `len` bytes: the required length, or `len` itself where any length is allowed.
 fn asked_len(id: NdpOptionType, len: usize) -> usize
     ensures { λ r. ⌜ r ≡ askedOf (id .0) len ⌝ }
 {
@@ -75,7 +75,7 @@ fn asked_len(id: NdpOptionType, len: usize) -> usize
     }
 }
 
-// The one door to the types' rule: what stands at the head of a rest.
+// What stands at the head of a rest. The only function that applies the types' own rule.
 fn judge(rest: &[u8]) -> Judged
     ensures { λ r. ⌜ judgedTold r ≡ judge rule (now (rest .entry)) ⌝ }
 {
@@ -122,7 +122,7 @@ impl Cursor {
         Cursor { at: 0 }
     }
 
-    // The bytes from the cursor on: none where it is beyond them.
+    // The bytes from the cursor on; none if it is beyond them.
     pub fn rest(self, options: &[u8]) -> &[u8]
         ensures { λ r. ⌜ now r ≡ drop (self .at) (now (options .entry)) ⌝ }
     {
@@ -164,7 +164,7 @@ impl Cursor {
 }
 
 impl NdpOption {
-    // The option's own bytes, as a part of the list that it was handed out of: as many of them as the list has.
+    // The option's bytes, as a part of the list that it came from. From a shorter list, the bytes that it has there.
     pub fn bytes(self, options: &[u8]) -> &[u8]
         ensures { λ r. ⌜ now r ≡ take (self .len) (drop (self .at) (now (options .entry))) ⌝ }
     {

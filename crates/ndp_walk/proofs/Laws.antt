@@ -82,7 +82,7 @@ module _ (rule : Rule) where
   pub options-clean : (os : List (List ℕ)) → Each (Whole rule) os → walk rule (concat os) ≡ record { items = placed rule 0 os; ending = Clean }
   options-clean os h = laid 0 os h
 
--- ---- two walks: demand 3
+-- ---- two walks: docs/RULES.md J1 to J4
 module _ (rule : Rule) (a b : List ℕ) where
   -- what follows a's path in the walk over a ++ b
   follows : walk rule (a ++ b) ≡ then (walk rule a .items) (walkFrom rule (walked rule 0 a .to) (walked rule 0 a .rest ++ b))
@@ -104,7 +104,7 @@ module _ (rule : Rule) (a b : List ℕ) where
           ap (then (walk rule a .items)) (shifted rule to (r ++ b) ∙ rw (h .0, end, drop-length a))
       go {to = to} {r = r} (bad {why = why} e) h w = on (missing why) refl e h w
 
-  -- what the walk of a hands out, the joined walk hands out first, at the same places ..
+  -- J1: a's options come first, at the same places ..
   pub handed-first : (more : List Item) × (walk rule (a ++ b) .items ≡ walk rule a .items ++ more)
   handed-first = (_, ap (λ (w : Walk). w .items) follows)
 
@@ -119,14 +119,14 @@ module _ (rule : Rule) (a b : List ℕ) where
       go [] h = refl
       go (i ∷ is) h = rw (kept (i .at) (i .len) (h .0 .within), go is (h .1))
 
-  -- clean: what follows is the walk of b alone, moved by a's length
+  -- J2: a is clean, and the walk goes on as b's
   pub after-clean : walk rule a .ending ≡ Clean → walk rule (a ++ b) ≡ then (walk rule a .items) (shift (length a) (walk rule b))
   after-clean e = joined-walk ∙ ap (joinedBy rule a b) e
 
-  -- refused for another reason than missing bytes: refused there with the same numbers
+  -- J3: no bytes are missing, and the refusal stays
   pub after-refusal : {at : ℕ} {why : Paper} → walk rule a .ending ≡ RefusedAt at why → missing why ≡ false → walk rule (a ++ b) ≡ walk rule a
   after-refusal e m = joined-walk ∙ ap (joinedBy rule a b) e ∙ rw m
 
-  -- bytes missing: what follows there is the walk of a's unread bytes joined with b, moved to that place
+  -- J4: bytes are missing, and the walk goes on where a was refused
   pub after-missing : {at : ℕ} {why : Paper} → walk rule a .ending ≡ RefusedAt at why → missing why ≡ true → walk rule (a ++ b) ≡ then (walk rule a .items) (shift at (walk rule (drop at a ++ b)))
   after-missing e m = joined-walk ∙ ap (joinedBy rule a b) e ∙ rw m

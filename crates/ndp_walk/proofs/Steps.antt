@@ -27,7 +27,7 @@ value i t = getD (t .paper .values) i 0
 abbrev itemIn : Told → Item
 itemIn t = item (value 1 t) (value 2 t) (value 3 t) (value 4 t)
 
--- a place beyond the bytes has no rest and answers Stopped
+-- W2: beyond the bytes there is no rest, and the step is Stopped
 pub beyond : (rule : Rule) (s : List ℕ) (at : ℕ) → length s < at → (drop at s ≡ []) × (stepBy rule s at ≡ stopped)
 unfolding stepBy
 beyond rule s at h = (drop-of-length-le s {i = at} (omega arith), simp (lt-ltb _ _ h))

@@ -1,4 +1,4 @@
--- Document 01, "The option walk": what stands at the head of option bytes, for any rule of the types.
+-- docs/RULES.md W3 and W4: what stands at the head of option bytes, for any rule of the types.
 -- Assumes nothing.
 use Prim.Native.Nat.{ℕ}
 use mathlib.Core.Bool.{cond}
@@ -27,8 +27,7 @@ abbrev pub ruled : ℕ → ℕ → Ruling → Judgement
 ruled type len (Fits kind) = Good kind type len
 ruled type len (Misfits why) = Bad why
 
--- At the end nothing. Otherwise, in this order: fewer than 2 bytes, refusal 5 (first byte, 2, 1); length unit 0, refusal 6; fewer than 8 times
--- the unit left, refusal 7; then the type's own rule
+-- no bytes: nothing; one byte: 5; a length byte of 0: 6; an option longer than what is left: 7; and only then the type's own rule
 unfoldable pub judge : Rule → List ℕ → Judgement
 judge rule l =
     cond (eqb (length l) 0) Over

@@ -38,7 +38,7 @@ pub record Of (rule : Rule) (s : List ℕ) (i : Item) : Type 0 where
   pub least : 8 ≤ i .len
   pub kind : rule (bytesIn s i) ≡ Fits (i .kind)
 
--- the rule's refusals have a number of document 01's table
+-- the rule's refusals have a number above 0 (docs/RULES.md N1 to N14)
 abbrev pub Numbered : Rule → Type 0
 Numbered rule = (o : List ℕ) (why : Paper) → rule o ≡ Misfits why → 0 < why .number
 
@@ -60,13 +60,13 @@ abbrev pub placed : Rule → ℕ → List (List ℕ) → List Item
 placed rule at [] = []
 placed rule at (o ∷ os) = item (kindIn (rule o)) (getD o 0 0) at (length o) ∷ placed rule (at + length o) os
 
--- ---- demand 3
--- missing bytes are refusal 7 of any type and the refusal 5 of a remainder of one byte, and nothing else
+-- ---- two lists joined: docs/RULES.md J1 to J5
+-- whether a refusal means that bytes are missing (J5): 7, or the 5 whose list has one byte left
 abbrev pub missing : Paper → Bool
 missing p = cond (eqb (p .number) 7) true (cond (eqb (p .number) 5) (eqb (getD (p .values) 2 0) 1) false)
 
--- what the walk over a ++ b is, by how the walk over a ended. Clean: then the walk over b, moved by a's length. Bytes missing: then the walk
--- over a's unread bytes joined with b, moved to that place. Refused for another reason: as it was
+-- what the walk over a ++ b is, by how the walk over a ended. Clean (J2): it goes on as b's. Bytes missing (J4): it goes on as the walk over
+-- what a has left, with b behind it. Refused for another reason (J3): it is a's
 abbrev pub joinedBy : Rule → List ℕ → List ℕ → Ending → Walk
 joinedBy rule a b Clean = then (walk rule a .items) (shift (length a) (walk rule b))
 joinedBy rule a b (RefusedAt at why) = cond (missing why) (then (walk rule a .items) (shift at (walk rule (drop at a ++ b)))) (walk rule a)

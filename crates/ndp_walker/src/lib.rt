@@ -1,5 +1,5 @@
-// The walker of document 01: it holds the option bytes it was given and a place in them. Each function takes it apart and leaves the work to a
-// function on the slice and the place; those over the struct are proved by hand.
+// The walk as a struct that holds its slice (docs/RULES.md W16). Each function takes the walker apart and leaves the work to a function on the
+// slice and the place; those over the struct are proved by hand.
 ghost use mathlib.Core.Path.{_≡_};
 ghost use lib.ListN.{drop};
 ghost use Rattle.ndp_options.specs.Walk.{stepOf};
@@ -40,14 +40,14 @@ pub fn step<'a>(w: Walker<'a>) -> Step
     step_at(w.options, w.at)
 }
 
-// The bytes from the walker's place on: none where it is beyond them.
+// The bytes from the walker's place on; none if it is beyond them.
 pub fn rest<'a>(w: Walker<'a>) -> &'a [u8]
     ensures { λ r. ⌜ now r ≡ drop (w .entry .at) (now (w .entry .options)) ⌝ }
 {
     rest_at(w.options, w.at)
 }
 
-// The first step of a walker over the bytes: its caller sees no walker, and needs no proof by hand.
+// The first step over the bytes, for a caller who needs no walker.
 pub fn first_step(options: &[u8]) -> Step
     ensures { λ r. ⌜ stepTold r ≡ stepOf (now (options .entry)) 0 ⌝ }
 {

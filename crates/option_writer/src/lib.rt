@@ -1,4 +1,4 @@
-// Encoders of the options that a sender needs (RFC 4861, section 4.6), each at the start of a lent buffer: refusal 9 where it is too short.
+// Writers of the options that a sender needs (RFC 4861, section 4.6; docs/RULES.md T7), each at the start of a lent buffer. Refusal 9 if it is too short.
 ghost use mathlib.Core.Path.{_≡_};
 ghost use Rattle.output.specs.Output.{writtenTold, roomFor, leaves};
 ghost use Rattle.prefix_information.specs.Prefix.{bytesOf};

@@ -1,4 +1,4 @@
--- What is answered of a buffer that is lent for output, and what it then holds (document 01, refusal 9; demand 1).
+-- What is answered of a buffer that is lent for output, and what it then holds (docs/RULES.md N9, T6, G4).
 -- Assumes nothing.
 use Prim.Native.Nat.{ℕ, _+_, _-_}
 use mathlib.Core.Bool.{cond}
@@ -15,7 +15,7 @@ abbrev pub writtenTold : Written → Paper
 writtenTold (To n) = gives (n ∷ [])
 writtenTold (Refused why) = refusal why
 
--- refusal 9 where fewer than n bytes are left from the place on, else the place behind n bytes
+-- refusal 9 with n if fewer than n bytes are left from the place on, else the place behind n bytes
 unfoldable pub roomFor : ℕ → List ℕ → ℕ → Paper
 roomFor n out at = cond (ltb (length out - at) n) (refuses 9 (n ∷ [])) (gives ((at + n) ∷ []))
 

@@ -1,4 +1,4 @@
--- Document 01, refusals 1 and 2: a packet under 8 bytes, or above MAX_ICMPV6_BYTE_LEN, which is the largest length that the 32 bits of
+-- docs/RULES.md N1 and N2: a packet under 8 bytes, or above MAX_ICMPV6_BYTE_LEN, which is the largest length that the 32 bits of
 -- the pseudo-header's length field hold (RFC 8200, section 8.1).
 -- Assumes nothing.
 use Prim.Native.Nat.{ℕ}

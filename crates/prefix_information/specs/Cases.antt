@@ -1,4 +1,4 @@
--- Document 01's cases P8 to P10, and three beside them: bytes with what reading them answers, and what reading and writing them gives.
+-- The cases P8 to P10 of docs/RULES.md, and three beside them: bytes with what reading them answers, and what reading and writing them gives.
 -- Assumes nothing.
 use Prim.Native.Nat.{ℕ}
 use mathlib.Core.Path.{_≡_}

@@ -1,4 +1,4 @@
--- Document 01, "Prefix option" (RFC 4861, section 4.6.2): 3, 4, prefix length, flags, valid and preferred lifetimes, 4 reserved bytes, 16 of prefix.
+-- docs/RULES.md O4 to O6 (RFC 4861, section 4.6.2): the prefix information option, read and written.
 -- Assumes nothing.
 use Prim.Native.Nat.{ℕ, _+_}
 use mathlib.Core.Bool.{false}

@@ -15,7 +15,7 @@ const ON_LINK_MASK: u8 = 128;
 const AUTONOMOUS_ADDRESS_CONFIGURATION_MASK: u8 = 64;
 
 pub struct PrefixInformation {
-    // How many leading bits of the prefix are valid; above 128 it is passed on as it stands.
+    // How many leading bits of the prefix are valid. Not tested: it may be above 128.
     pub prefix_length: u8,
     pub on_link: bool,
     pub autonomous_address_configuration: bool,
@@ -25,7 +25,7 @@ pub struct PrefixInformation {
     pub prefix: [u8; 16],
 }
 
-// No enum holds an array, so what the option says stands beside the answer: all 0 where it is refused.
+// What the option says stands beside the answer, since no enum may hold an array. All 0 if the option is refused.
 pub struct PrefixInformationRead {
     pub answer: NdpOptionRead,
     pub information: PrefixInformation,
@@ -108,7 +108,7 @@ impl PrefixInformation {
     }
 }
 
-// What 32 bytes say, whatever their header. Reserved bits are dropped.
+// The contents of 32 bytes, whatever their header. Reserved bits are dropped.
 fn information_in(slice: &[u8]) -> PrefixInformation
     requires { ⌜ length (now slice) ≡ 32 ⌝ }
     ensures { λ r. ⌜ r ≡ informationAt (now (slice .entry)) ⌝ }

@@ -1,4 +1,4 @@
--- The receive check (RFC 4861, sections 6.1.1, 6.1.2, 7.1.1, 7.1.2 and 8.1): a packet that passes is opened, and handed on as the dispatch tells
+-- docs/RULES.md R1 to R5, R9, R10: the receive check (RFC 4861, sections 6.1.1, 6.1.2, 7.1.1, 7.1.2 and 8.1): a packet that passes is opened, and handed on as the dispatch tells
 -- it. After refusals 1 and 2 come the reasons of refusal 11, in the order in which they are tested.
 -- Assumes nothing.
 use Prim.Native.Nat.{ℕ}
@@ -30,12 +30,12 @@ isClean (RefusedAt at why) = false
 abbrev pub isSound : List ℕ → List ℕ → List ℕ → Bool
 isSound source destination packet = isValid (verdictOf source destination packet)
 
--- (5) clean walk of the options; then the type's own of (6) addresses; (7) target; (8) option against source
+-- R5, then the type's own of R6 to R8
 unfoldable pub optionReasons : ℕ → List ℕ → List ℕ → List ℕ → List ℕ → List Reason
 optionReasons type options source destination packet =
     reason 5 (not (isClean (walk options .ending))) ∷ ownOf type source destination packet (occurs 1 (walk options .items))
 
--- (1) hop limit 255; (2) checksum; (3) code 0; (4) the fixed part is there; and those above. Other types: (2) only
+-- R1 to R4, and those above; of other types R2 alone
 unfoldable pub reasons : ℕ → List ℕ → List ℕ → List ℕ → List Reason
 reasons hops source destination packet =
     let type = getD packet 0 0 in

@@ -1,4 +1,4 @@
--- What RFC 4861 asks of the addresses, the target and the options of each message: reasons 6, 7 and 8, by type.
+-- docs/RULES.md R6 to R8: what RFC 4861 asks of the addresses, the target and the options of each message: reasons 6, 7 and 8, by type.
 -- `listed`: an option of type 1, the sender's link-layer address (section 4.6.1), is among the options.
 -- Assumes nothing.
 use Prim.Native.Nat.{ℕ}

@@ -225,7 +225,7 @@ pub fn judge(packet: &[u8], hop_limit: u8, source: &[u8; 16], destination: &[u8;
     }
 }
 
-// Whether a packet that came under a hop limit, from a source to a destination, may be acted on.
+// Whether a packet that came with this hop limit from `source` to `destination` may be used.
 pub fn receive_check(
     packet: &[u8],
     hop_limit: u8,

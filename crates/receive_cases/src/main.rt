@@ -1,4 +1,4 @@
-// Reads records (document 01, "The dump and its records") on standard input and writes a line for each: its number, and 0 where the receive
+// Reads records (docs/RULES.md C1) on standard input and writes a line for each: its number, and 0 where the receive
 // check accepts the packet, else the refusal's number and values. `make_cases.py` makes the input and the answers that are wanted.
 use capture::Next;
 use capture::Record;

@@ -1,4 +1,4 @@
--- Document 01, "Numbers a refusal carries": the number of each refusal and what it carries, in the table's order.
+-- docs/RULES.md N1 to N14: the number of each refusal and the values that it carries, in this order.
 -- Assumes nothing.
 use Prim.Native.Nat.{ℕ}
 use mathlib.Core.List.{List, [], _∷_}

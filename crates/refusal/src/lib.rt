@@ -1,4 +1,4 @@
-// The refusals of document 01's table, which every answer of the library shares.
+// The refusals (docs/RULES.md N1 to N14), which every answer of the library shares.
 ghost use mathlib.Core.Path.{_≡_};
 ghost use lib.ListN.{getD, length};
 ghost use Rattle.refusal.specs.Table.{number, values};
@@ -68,7 +68,7 @@ pub enum Refusal {
     },
 }
 
-// A refusal as numbers: the table's, how many it carries, and those, with 0 past the last.
+// A refusal as numbers: its number, how many values it carries, and the values, 0 past the last.
 pub struct Numbers {
     pub number: u8,
     pub count: usize,
@@ -187,7 +187,7 @@ impl Refusal {
         n.count
     }
 
-    // The i-th number that it carries, from 0, or 0 where it carries no more.
+    // The i-th value, counted from 0; 0 past the last.
     pub fn value(self, i: usize) -> u64
         ensures { λ v. ⌜ v ≡ getD (values self) i 0 ⌝ }
     {

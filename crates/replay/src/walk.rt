@@ -83,7 +83,7 @@ fn given(input: &[u8], o: NdpOption) -> Told {
     )
 }
 
-// The same of a prefix option that document 01's rule, which comes after, refuses with that length.
+// The same of a prefix option that the type's own rule, which comes after, refuses with that length.
 fn given_misfit(why: Refusal, place: usize) -> Told {
     let n = why.numbers();
     let v = n.values;

@@ -32,7 +32,7 @@ pub fn u32_to_be(x: u32) -> [u8; 4]
     ]
 }
 
-// Whether the flag of a weight, a power of two, is set in a byte. No weight is 0: there it answers no.
+// Whether the flag of a weight, a power of two, is set in a byte. No for weight 0.
 pub fn has_flag(x: u8, weight: u8) -> bool
     ensures { λ r. ⌜ r ≡ hasFlag x weight ⌝ }
 {
@@ -42,14 +42,14 @@ pub fn has_flag(x: u8, weight: u8) -> bool
     x / weight % 2 == 1
 }
 
-// The weight of a flag that is set, and 0 of one that is not.
+// The weight of a flag if it is set, else 0.
 pub fn flag_of(set: bool, weight: u8) -> u8
     ensures { λ r. ⌜ r ≡ flagOf set weight ⌝ }
 {
     if set { weight } else { 0 }
 }
 
-// Whether bytes begin with a prefix. All bytes begin with one that is empty.
+// Whether bytes begin with a prefix. All bytes begin with an empty one.
 pub fn begins_with(bytes: &[u8], prefix: &[u8]) -> bool
     ensures { λ r. ⌜ r ≡ begins (now (prefix .entry)) (now (bytes .entry)) ⌝ }
 {

@@ -33,7 +33,7 @@ written t payload out =
 abbrev case : List ℕ → List ℕ → Case
 case got wanted = record { got = got; wanted = wanted }
 
--- an option of type 1 in one unit, as in the first packet of document 01's listing
+-- an option of type 1 in one unit, as in the packet of P11
 abbrev option : List ℕ
 option = 1 ∷ 1 ∷ 2 ∷ 0 ∷ 0 ∷ 0 ∷ 0 ∷ 1 ∷ []
 

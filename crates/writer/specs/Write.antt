@@ -1,5 +1,4 @@
--- Document 01, "Numbers a refusal carries": the writer tests 10, 3, then 4 and 5 to 8, then 9; it writes the head with the computed checksum,
--- then the payload, and answers the length.
+-- docs/RULES.md T1 and T2: what the packet writer tests and in which order, what it writes, and what it answers.
 -- Assumes nothing.
 use Prim.Native.Nat.{ℕ, _+_}
 use mathlib.Core.Bool.{cond}
@@ -32,7 +31,7 @@ a orElse b = cond (eqb (a .number) 0) b a
 abbrev pub optionsOf : Icmpv6Type → List ℕ → List ℕ
 optionsOf t payload = optionsIn 0 (kindNumber t) payload
 
--- refusals 10 and 3, the dispatch's 4, the walk's 5 to 8
+-- refusals 10 and 3, the dispatch's 4, the walk's 5 to 7
 unfoldable pub sendableOf : Icmpv6Type → List ℕ → Paper
 sendableOf t payload =
     cond (misnamed t) (refuses 10 (typeNumber t ∷ codeNumber t ∷ []))

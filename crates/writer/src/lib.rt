@@ -1,4 +1,4 @@
-// The packet writer (document 01, "Numbers a refusal carries"): a type value, both addresses and a payload, into a lent buffer.
+// The packet writer (docs/RULES.md T1 to T5): a type value, both addresses and a payload, into a lent buffer.
 ghost use mathlib.Core.Path.{_≡_};
 ghost use Rattle.icmpv6_type.specs.Reserved.{misnamed};
 ghost use Rattle.output.specs.Output.{writtenTold, leaves};
@@ -20,7 +20,7 @@ enum Sendable {
     Refused(Refusal),
 }
 
-// Whether a value is an Unknown that names a pair which the decoder knows.
+// Whether a value is an Unknown that names a known pair.
 fn names_known_pair(icmp_type: Icmpv6Type) -> bool
     ensures { λ r. ⌜ r ≡ misnamed «icmp_type» ⌝ }
 {
@@ -31,7 +31,8 @@ fn names_known_pair(icmp_type: Icmpv6Type) -> bool
     }
 }
 
-// Refusals 10, 3, 4, and 5 to 8, in this order. A kind without a fixed part lacks none of it, and one without options walks clean.
+// Refusals 10, 3, 4, and the walk's 5 to 7, in this order (docs/RULES.md T2). A kind without a fixed part lacks none of it, and one without
+// options walks clean.
 fn check(icmp_type: Icmpv6Type, payload: &[u8]) -> Sendable
     ensures { λ r. ⌜ sendableTold r ≡ sendableOf «icmp_type» (now (payload .entry)) ⌝ }
 {
@@ -60,7 +61,7 @@ fn check(icmp_type: Icmpv6Type, payload: &[u8]) -> Sendable
     }
 }
 
-// Writes a packet at the start of the output and answers its length; a refusal leaves every byte as it was.
+// Writes a packet at the start of the output and returns its length. A refusal leaves every byte as it was.
 pub fn write_packet(
     icmp_type: Icmpv6Type,
     source: &[u8; 16],

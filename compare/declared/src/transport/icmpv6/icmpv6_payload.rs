@@ -1,5 +1,5 @@
-//! DECLARED: the fixed parts as the excerpt fills them in, and the two lengths that it names, by document 01's table
-//! ("The eight-byte head": 8 bytes for 134, 32 for 137). ABSENT: the fixed parts of 133, 135 and 136, which have no value.
+//! DECLARED: the fixed parts as the excerpt fills them in, and the two lengths that it names, by docs/RULES.md H3
+//! (8 bytes for 134, 32 for 137). ABSENT: the fixed parts of 133, 135 and 136, which have no value.
 
 use core::net::Ipv6Addr;
 

@@ -1,4 +1,4 @@
-//! DECLARED: the type byte of an option and the names of five of its values, which document 01 numbers ("The option walk").
+//! DECLARED: the type byte of an option and the names of five of its values, which docs/RULES.md numbers (W5).
 //! ABSENT: its conversion into a byte. `PrefixInformation::to_bytes` alone asks for it, for its first byte, and that byte is not compared.
 
 #[derive(Clone, Copy, Debug, PartialEq, Eq, Ord, PartialOrd, Hash)]
