@@ -167,8 +167,8 @@ struct brothladder_received {
     uint32_t answer; /* RECEIVED or REFUSED */
     uint32_t refusal;
     uint64_t value[4];
-    size_t options_at; /* the options are packet[options_at] to the packet's end; types other than 133 to 137 have none */
-    size_t options_length;
+    size_t options_at;     /* the options are packet[options_at] to the packet's end */
+    size_t options_length; /* 0 if there are none; types other than 133 to 137 never have any */
 };
 
 struct brothladder_written {

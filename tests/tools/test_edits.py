@@ -22,7 +22,7 @@ EDITS = [
     ("an edit of a proof", "wire/tried: proofs/has_flag/Proof.antt is no file of src/ or specs/",
      {WIRE + "tried.edit": edit("file: proofs/has_flag/Proof.antt", "old: rw (c .if1 .taken, div·zero)", "new: refl")}),
     ("an edit of a comment", "wire/tried: it changes comments and white space alone",
-     {WIRE + "tried.edit": edit("file: src/lib.rt", "old: // The weight of a flag that is set", "new: // The weight of a flag that is not set")}),
+     {WIRE + "tried.edit": edit("file: src/lib.rt", "old: // The weight of a flag if it is set", "new: // The weight of a flag if it is not set")}),
     ("an edit of a comment of a definition", "wire/tried: it changes comments and white space alone",
      {WIRE + "tried.edit": edit("file: specs/Lib.antt", "old: pub mod Wire", "new: pub mod Wire -- numbers")}),
     ("an edit of white space", "wire/tried: it changes comments and white space alone",
