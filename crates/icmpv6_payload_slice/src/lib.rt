@@ -29,8 +29,8 @@ pub enum Icmpv6PayloadKind {
 }
 
 // A message that was dispatched: its kind, the place of its payload, and that of its options, which are the bytes from there to the end (none of a
-// kind that has no options). Places count from the first of the bytes that were dispatched, which stay the caller's. Walk the options by a
-// `Cursor` at `options_at` over the same bytes: over fewer bytes it answers Stopped, and never the end of a list.
+// kind that has no options). Places count from the first of the bytes that were dispatched, which stay the caller's. The options are the rest of a
+// `Cursor` at `options_at` over the same bytes; of bytes that do not reach that place there is no rest, and a step there is Stopped, never End.
 pub struct Icmpv6PayloadSlice {
     pub kind: Icmpv6PayloadKind,
     pub payload_at: usize,
