@@ -10,8 +10,6 @@ use Rattle.refusal.specs.Paper.{slots}
 use Rattle.wire.specs.Wire.{bytes32}
 use Rattle.icmpv6_type.specs.declared.Icmpv6Type.{Icmpv6Type}
 use Rattle.icmpv6_type.specs.From as head
-use Rattle.output.specs.Output.{leaves}
-use Rattle.writer.specs.Write.{writeOf, packetOf}
 use Rattle.c_answer.specs.Answer.{REFUSED, WRITTEN, none}
 use Rattle.c_write.specs.declared.Written.{Written}
 
@@ -25,7 +23,3 @@ unfoldable pub writtenFor : Paper → Written
 writtenFor p =
     cond (eqb (p .number) 0) (written WRITTEN 0 none (getD (p .values) 0 0))
     (written REFUSED (p .number) (slots (p .values)) 0)
-
--- what the output then holds: the packet at its start, or what it held before
-abbrev pub outputOf : Icmpv6Type → List ℕ → List ℕ → List ℕ → List ℕ → List ℕ
-outputOf t source destination payload out = leaves (writeOf t payload out) out 0 (packetOf source destination t payload)

@@ -1,7 +1,7 @@
 // A packet written into a lent output. The type value comes as numbers.
 ghost use mathlib.Core.Path.{_≡_};
-ghost use Rattle.writer.specs.Write.{writeOf};
-ghost use Rattle.c_write.specs.Written.{valueOf, writtenFor, outputOf};
+ghost use Rattle.writer.specs.Write.{writeOf, outputOf};
+ghost use Rattle.c_write.specs.Written.{valueOf, writtenFor};
 use icmpv6_type::Icmpv6Type;
 use writer::write_packet;
 

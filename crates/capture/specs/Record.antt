@@ -7,7 +7,7 @@ use lib.Dec.{ltb, eqb}
 use lib.ListN.{length, getD, take, drop, replicate}
 use Rattle.paper.specs.Paper.{Paper, refuses, gives}
 use Rattle.wire.specs.Prefix.{begins}
-use Rattle.output.specs.Output.{over}
+use Rattle.output.specs.Output.{over, roomFor}
 use Rattle.wire.specs.Wire.{word16At}
 
 -- "I6" in ASCII
@@ -75,3 +75,7 @@ nextOf s at base =
 -- an answer that is given only where a record can hold the packet, else refusal 13
 unfoldable pub recorded : List ℕ → Paper → Paper
 recorded p answer = cond (ltb 2048 (length p)) (refuses 13 (length p ∷ [])) answer
+
+-- a record of a packet written at the start of an output: refusal 13, then 9, or its length
+abbrev pub writeRecordOf : List ℕ → List ℕ → Paper
+writeRecordOf p out = recorded p (roomFor (37 + length p) out 0)

@@ -2,8 +2,8 @@
 ghost use mathlib.Core.Path.{_≡_};
 ghost use Prim.Native.Nat.{_+_, _<_};
 ghost use lib.ListN.{length, take, drop};
-ghost use Rattle.output.specs.Output.{writtenTold, roomFor, leaves};
-ghost use Rattle.capture.specs.Record.{addressAt, recordBytes, recordOf, placed, nextOf, recorded};
+ghost use Rattle.output.specs.Output.{writtenTold, leaves};
+ghost use Rattle.capture.specs.Record.{addressAt, recordBytes, recordOf, placed, nextOf, writeRecordOf};
 ghost use Rattle.capture.specs.Paper.{nextPaper};
 use output::Written;
 use refusal::Refusal;
@@ -106,8 +106,8 @@ pub fn write_record(
     packet: &[u8],
     out: &mut [u8],
 ) -> Written
-    ensures answers { λ r. ⌜ writtenTold r ≡ recorded (now (packet .entry)) (roomFor (37 + length (now (packet .entry))) (now (out .entry)) 0) ⌝ }
-    ensures lent { λ r. ⌜ now (out .exit) ≡ leaves (recorded (now (packet .entry)) (roomFor (37 + length (now (packet .entry))) (now (out .entry)) 0)) (now (out .entry)) 0 (recordBytes «hop_limit» (now (source .entry)) (now (destination .entry)) (now (packet .entry))) ⌝ }
+    ensures answers { λ r. ⌜ writtenTold r ≡ writeRecordOf (now (packet .entry)) (now (out .entry)) ⌝ }
+    ensures lent { λ r. ⌜ now (out .exit) ≡ leaves (writeRecordOf (now (packet .entry)) (now (out .entry))) (now (out .entry)) 0 (recordBytes «hop_limit» (now (source .entry)) (now (destination .entry)) (now (packet .entry))) ⌝ }
 {
     let len = packet.len();
     if MAX_PACKET_LEN < len {

@@ -10,4 +10,4 @@ use Rattle.listing.proofs.put_record as put-record
 
 pub put-record-unique : Only put-record.ended (λ M 𝓤. put-record.clauses 𝓤)
 put-record-unique M 𝓤 H A m f κs a g x y v w =
-    two 𝓤 (λ p out q out′. (written-lossless x y (p .0 ∙ sym (q .0)), ap (λ (l : List ℕ). (l, (tt, (tt, (tt, (tt, (tt, (tt, (tt, tt))))))))) (out ∙ sym out′)))
+    two 𝓤 (λ p out q out′. (written-lossless x y (p .is ∙ sym (q .is)), ap (λ (l : List ℕ). (l, (tt, (tt, (tt, (tt, (tt, (tt, (tt, tt))))))))) (out ∙ sym out′)))

@@ -1,6 +1,7 @@
 -- docs/RULES.md D2 to D6, D9: the text of one record, over the dispatch, the verdict, the receive check and the option walk.
 -- Assumes nothing.
-use Prim.Native.Nat.{ℕ, _+_}
+use Prim.Native.Nat.{ℕ, _+_, _≤_}
+use mathlib.Core.Path.{_≡_}
 use mathlib.Core.Bool.{cond}
 use mathlib.Core.List.{List, [], _∷_, _++_}
 use lib.Dec.{eqb}
@@ -54,6 +55,11 @@ recordText number place hop source destination p = recordLine number place ++ pa
 -- the text of a packet's record put at a place: refusal 13 of a packet that no record holds, then 9, or the place behind the text
 abbrev pub putOf : List ℕ → List ℕ → List ℕ → ℕ → Paper
 putOf packet text out at = recorded packet (roomFor (length text) out at)
+
+-- and the text of a record has at most 33,024 bytes
+pub record Puts (answer : Paper) (packet text out : List ℕ) (at : ℕ) : Type 0 where
+  pub is : answer ≡ putOf packet text out at
+  pub short : length packet ≤ 2048 → length text ≤ 33024
 
 abbrev pub putLeaves : List ℕ → List ℕ → List ℕ → ℕ → List ℕ
 putLeaves packet text out at = leaves (putOf packet text out at) out at text

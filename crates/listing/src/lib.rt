@@ -9,7 +9,7 @@ ghost use Rattle.output.specs.Output.{writtenTold, Wrote};
 ghost use Rattle.ndp_options.specs.Walk.{walk};
 ghost use Rattle.lines.specs.Line.{text};
 ghost use Rattle.message_table.specs.Table.{isNdp};
-ghost use Rattle.listing.specs.Packet.{walkText, packetText, recordText, putOf, putLeaves};
+ghost use Rattle.listing.specs.Packet.{walkText, packetText, recordText, Puts, putLeaves};
 use icmpv6_payload_slice::PayloadRead;
 use lines::Line;
 use ndp_options::Cursor;
@@ -31,7 +31,7 @@ pub fn put_record(
     destination: &[u8; 16],
     packet: &[u8],
 ) -> Written
-    ensures answers { λ r. ⌜ (writtenTold r ≡ putOf (now (packet .entry)) (recordText number place «hop_limit» (now (source .entry)) (now (destination .entry)) (now (packet .entry))) (now (out .entry)) at) × (length (now (packet .entry)) ≤ 2048 → length (recordText number place «hop_limit» (now (source .entry)) (now (destination .entry)) (now (packet .entry))) ≤ 33024) ⌝ }
+    ensures answers { λ r. ⌜ Puts (writtenTold r) (now (packet .entry)) (recordText number place «hop_limit» (now (source .entry)) (now (destination .entry)) (now (packet .entry))) (now (out .entry)) at ⌝ }
     ensures lent { λ r. ⌜ now (out .exit) ≡ putLeaves (now (packet .entry)) (recordText number place «hop_limit» (now (source .entry)) (now (destination .entry)) (now (packet .entry))) (now (out .entry)) at ⌝ }
 {
     let len = packet.len();

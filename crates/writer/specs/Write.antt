@@ -18,7 +18,7 @@ use Rattle.icmpv6_payload_slice.specs.Dispatch.{optionsIn, byValue}
 use Rattle.ndp_option_list.specs.Whole.{countOf}
 use Rattle.output.specs.declared.Written.{Written}
 use Rattle.output.specs.declared.Written.the-variants as output
-use Rattle.output.specs.Output.{roomFor}
+use Rattle.output.specs.Output.{leaves, roomFor}
 use Rattle.writer.specs.declared.Sendable.{Sendable}
 use Rattle.writer.specs.declared.Sendable.the-variants.{Yes, Refused}
 
@@ -49,6 +49,10 @@ sealedHead source destination t payload =
 
 abbrev pub packetOf : List ℕ → List ℕ → Icmpv6Type → List ℕ → List ℕ
 packetOf source destination t payload = sealedHead source destination t payload ++ payload
+
+-- what the output then holds: the packet at its start, or what it held before
+abbrev pub outputOf : Icmpv6Type → List ℕ → List ℕ → List ℕ → List ℕ → List ℕ
+outputOf t source destination payload out = leaves (writeOf t payload out) out 0 (packetOf source destination t payload)
 
 abbrev pub sendableTold : Sendable → Paper
 sendableTold Yes = gives []

@@ -1,8 +1,8 @@
 // The packet writer (docs/RULES.md T1 to T5): a type value, both addresses and a payload, into a lent buffer.
 ghost use mathlib.Core.Path.{_≡_};
 ghost use Rattle.icmpv6_type.specs.Reserved.{misnamed};
-ghost use Rattle.output.specs.Output.{writtenTold, leaves};
-ghost use Rattle.writer.specs.Write.{sendableTold, sendableOf, packetOf, writeOf};
+ghost use Rattle.output.specs.Output.{writtenTold};
+ghost use Rattle.writer.specs.Write.{sendableTold, sendableOf, writeOf, outputOf};
 use icmpv6_checksum::HeaderMade;
 use icmpv6_payload_slice::Icmpv6PayloadSlice;
 use icmpv6_payload_slice::PayloadRead;
@@ -70,7 +70,7 @@ pub fn write_packet(
     out: &mut [u8],
 ) -> Written
     ensures answers { λ r. ⌜ writtenTold r ≡ writeOf «icmp_type» (now (payload .entry)) (now (out .entry)) ⌝ }
-    ensures lent { λ r. ⌜ now (out .exit) ≡ leaves (writeOf «icmp_type» (now (payload .entry)) (now (out .entry))) (now (out .entry)) 0 (packetOf (now (source .entry)) (now (destination .entry)) «icmp_type» (now (payload .entry))) ⌝ }
+    ensures lent { λ r. ⌜ now (out .exit) ≡ outputOf «icmp_type» (now (source .entry)) (now (destination .entry)) (now (payload .entry)) (now (out .entry)) ⌝ }
 {
     match check(icmp_type, payload) {
         Sendable::Refused(why) => Written::Refused(why),

@@ -1,7 +1,8 @@
 -- `brothladder_write` meets its contract: what `from_parts` makes is the value of the numbers; answer and output are as `write_packet` promises them of it.
 -- Assumes nothing.
 use Rattle.icmpv6_type.proofs.Paper.{value-is}
-use Rattle.c_write.specs.Written.{valueOf, writtenFor, outputOf}
+use Rattle.writer.specs.Write.{outputOf}
+use Rattle.c_write.specs.Written.{valueOf, writtenFor}
 use Rattle.refusal.proofs.Paper.{refusal-numbered}
 use Prim.Native.Nat.{ℕ}
 use mathlib.Core.Path.{_≡_, sym, ap, _∙_}

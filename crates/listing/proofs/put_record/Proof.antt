@@ -13,7 +13,9 @@ use Rattle.listing.proofs.put_record.Statement.{statement}
 use Rattle.listing.proofs.put_record.Tie as tie
 
 returns : tie.Need-returns
-returns c = simp (not-held (now (c .before .before .before .args .packet)) (c .if1 .taken)) ((refl, λ h. omega (arith, c .if1 .taken)), refl)
+returns c =
+    let no = not-held (now (c .before .before .before .args .packet)) (c .if1 .taken) in
+    (record { is = simp no; short = λ h. omega (arith, c .if1 .taken) }, simp no)
 
 room-requires : tie.Need-room-requires
 room-requires c κs = search needs
@@ -31,7 +33,9 @@ returns-2 c =
     let i = r .before .before .before in
     let a = i .before .before .before .args in
     let w = l .put-text .ensures .0 in
-    simp (held (now (a .packet)) (i .if1 .left), fits (length (recordText (a .number) (a .place) (a .hop-limit) (now (a .source)) (now (a .destination)) (now (a .packet)))) (now (a .out)) (a .at) (omega (arith, w .ends, l .put-text .ensures .1, r .if2 .taken, r .before .room .ensures)), w .ends) ((refl, λ h. omega (arith, w .ends, l .put-text .ensures .1)), w .holds)
+    let yes = held (now (a .packet)) (i .if1 .left) in
+    let room = fits (length (recordText (a .number) (a .place) (a .hop-limit) (now (a .source)) (now (a .destination)) (now (a .packet)))) (now (a .out)) (a .at) (omega (arith, w .ends, l .put-text .ensures .1, r .if2 .taken, r .before .room .ensures)) in
+    (record { is = simp (yes, room, w .ends); short = λ h. omega (arith, w .ends, l .put-text .ensures .1) }, simp (yes, room) (w .holds))
 
 slice-aggregate-put-text : tie.Need-slice-aggregate-put-text
 slice-aggregate-put-text c = search needs
@@ -68,7 +72,8 @@ returns-3 c =
     let l = p .before .before .before .before in
     let i = l .before .before .before .before .before in
     let a = i .before .before .before .args in
-    simp (held (now (a .packet)) (i .if1 .left), p .put .ensures .0, own l) ((refl, λ h. omega (arith, l .put-text2 .ensures .0 .ends, l .put-text2 .ensures .1)), rw (own l) at (p .put .ensures .1))
+    let yes = held (now (a .packet)) (i .if1 .left) in
+    (record { is = simp (yes, p .put .ensures .0, own l); short = λ h. omega (arith, l .put-text2 .ensures .0 .ends, l .put-text2 .ensures .1) }, simp yes (rw (own l) at (p .put .ensures .1)))
 
 pub put-record-spec : {M : Type 1} → statement M
 put-record-spec =

@@ -76,8 +76,8 @@ returns c =
     let d = e .before in
     let a = d .before .before .before .before in
     let body = now (q .part .result) in
-    let all = p .put-record .ensures .0 .1 (few q) in
-    let w = told (now (a .args .out)) (a .args .s .put) (recordText (a .args .s .count + 1) (a .args .place + a .args .s .at) (a .args .found .«hop_limit») (d .address .result) (e .address2 .result) body) (rw (held body (few q)) at (p .put-record .ensures .1)) (omega (arith, a .pre .0, all)) (p .put-record .ensures .0 .0 ∙ held body (few q) _) (c .before .put .given .0 .0) (c .before .put .given .1) in
+    let all = p .put-record .ensures .0 .short (few q) in
+    let w = told (now (a .args .out)) (a .args .s .put) (recordText (a .args .s .count + 1) (a .args .place + a .args .s .at) (a .args .found .«hop_limit») (d .address .result) (e .address2 .result) body) (rw (held body (few q)) at (p .put-record .ensures .1)) (omega (arith, a .pre .0, all)) (p .put-record .ensures .0 .is ∙ held body (few q) _) (c .before .put .given .0 .0) (c .before .put .given .1) in
     record { at = a .pre .1 .next; count = refl; wrote = rw (same q) at w; fits = omega (arith, w .ends, a .pre .0, all); stage = refl }
 
 same-length-2 : tie.Need-same-length-2
@@ -92,7 +92,7 @@ returns-2 c =
     let d = e .before in
     let a = d .before .before .before .before in
     let body = now (q .part .result) in
-    absurd (not-full (now (a .args .out)) (a .args .s .put) (recordText (a .args .s .count + 1) (a .args .place + a .args .s .at) (a .args .found .«hop_limit») (d .address .result) (e .address2 .result) body) (rw (held body (few q)) at (p .put-record .ensures .1)) (omega (arith, a .pre .0, p .put-record .ensures .0 .1 (few q))) (p .put-record .ensures .0 .0 ∙ held body (few q) _) _ (m .enum-told .given .1))
+    absurd (not-full (now (a .args .out)) (a .args .s .put) (recordText (a .args .s .count + 1) (a .args .place + a .args .s .at) (a .args .found .«hop_limit») (d .address .result) (e .address2 .result) body) (rw (held body (few q)) at (p .put-record .ensures .1)) (omega (arith, a .pre .0, p .put-record .ensures .0 .short (few q))) (p .put-record .ensures .0 .is ∙ held body (few q) _) _ (m .enum-told .given .1))
 
 pub list-record-spec : {M : Type 1} → statement M
 list-record-spec =
