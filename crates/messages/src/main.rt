@@ -5,9 +5,11 @@
 ghost use mathlib.Core.Path.{_≡_};
 ghost use lib.ListN.{drop};
 ghost use Rattle.icmpv6.specs.Head.{headerTold};
+ghost use Rattle.checksum.specs.Told.{computed};
 ghost use Rattle.icmpv6_checksum.specs.Header.{calcOf, leaves};
 use capture::part;
 use capture::write_record;
+use checksum::Computed;
 use icmpv6::icmpv6_header::Icmpv6Header;
 use icmpv6_checksum::HeaderMade;
 use icmpv6_checksum::to_header;
@@ -144,18 +146,33 @@ fn is_headed(header: Icmpv6Header, payload: &[u8], packet: &[u8]) -> bool {
     check::same(part(packet, header.header_len(), packet.len()), payload)
 }
 
+// What `update_checksum` answers, and the header that it leaves.
+struct HeaderUpdated {
+    answer: Computed,
+    header: Icmpv6Header,
+}
+
 // A header that was lent for its checksum to be set.
 fn updated(
-    header: Icmpv6Header,
+    h: Icmpv6Header,
     payload: &[u8],
     source: &[u8; 16],
     destination: &[u8; 16],
-) -> Icmpv6Header
-    ensures { λ r. ⌜ headerTold r ≡ leaves (calcOf (now (source .entry)) (now (destination .entry)) (header .«icmp_type») (now (payload .entry))) (headerTold header) ⌝ }
+) -> HeaderUpdated
+    ensures { λ r. ⌜ (computed (r .answer) ≡ calcOf (now (source .entry)) (now (destination .entry)) (h .«icmp_type») (now (payload .entry)))
+        × (headerTold (r .header) ≡ leaves (calcOf (now (source .entry)) (now (destination .entry)) (h .«icmp_type») (now (payload .entry))) (headerTold h)) ⌝ }
 {
-    let mut lent = header;
-    update_checksum(&mut lent, payload, source, destination);
-    lent
+    let mut header = h;
+    let answer = update_checksum(&mut header, payload, source, destination);
+    HeaderUpdated { answer, header }
+}
+
+// Whether an answer is the checksum that a header has.
+fn is_answered(answer: Computed, header: Icmpv6Header) -> bool {
+    match answer {
+        Computed::Checksum(n) => n == header.checksum,
+        Computed::Refused(_) => false,
+    }
 }
 
 // Whether a packet is what a header with another checksum is once its own is set.
@@ -170,11 +187,10 @@ fn is_as_updated(
         icmp_type,
         checksum: 1,
     };
-    is_headed(
-        updated(other, payload, source, destination),
-        payload,
-        packet,
-    )
+    let after = updated(other, payload, source, destination);
+    let answer = after.answer;
+    let header = after.header;
+    is_answered(answer, header) && is_headed(header, payload, packet)
 }
 
 // Whether a packet is what a header made for the payload says.

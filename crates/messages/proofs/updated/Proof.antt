@@ -1,7 +1,7 @@
 -- `updated` meets its contract: a walk of its MIR, by hand. The header's copy is lent for a lifetime that is made for the call, and taken back at the
--- value that it then has. All that the proof knows of `update_checksum` is that it meets its contract.
+-- value that it then has. It is handed out beside the answer. All that the proof knows of `update_checksum` is that it meets its contract.
 -- Assumes nothing.
-use mathlib.Core.Path.{_≡_, refl}
+use mathlib.Core.Path.{_≡_, refl, ap, subst}
 use Prim.Native.Nat.{ℕ}
 use mathlib.Core.List.{[], _∷_, List}
 use lib.ListN.{length}
@@ -17,7 +17,8 @@ use prog.Wp.{Heap, Calls, Loops, WpFn, Tables}
 use ghost.Atoms.{Atoms, sem}
 use contract.Monad.{Fun, fact}
 use contract.Running.{givenOf, tables, tablesOf}
-use types.Kit.{Given, Item, ‵, raw, _⊛_, ⋆, some, later, _$_, _∵_, !, qed, by, move, drop, use1, use2, use3, split, join, pick, fsplit, fjoin, suffices, frame, await, done}
+use types.Kit.{Given, Item, ‵, raw, _⊛_, ⋆, some, later, _$_, _∵_, !, qed, by, move, drop, rewrite, use1, use2, use3, split, join, pick, fsplit, fjoin, suffices, frame, await, done}
+use types.Part.{agg}
 use types.Run.{look, init, forget, stop, from, load, addr, of-opd, and-then, no-more, assigns, land, returns, enter, alloc1, alloc0, params1, pass1, pass0, free1, free0}
 use types.SemTy.{Body}
 use types.Tokens.{lft-new, lft-end}
@@ -31,7 +32,7 @@ use denote.Array.{Array}
 use denote.Ref.{RefT, MutRef, ShrRef, now, ptr-vals, shr-tells, shr-copy}
 use denote.Signature.{plain}
 use denote.Slice.{sliceVal, ShrSlice, slice-vals, shr-slice-tells, shr-slice-lawful, shr-slice-copy}
-use denote.Steps.{owned, peeks, heard, nothing}
+use denote.Steps.{only, owned, facts, heard, nothing}
 use denote.Struct.Laws as LL
 use denote.Enum.Laws as EL
 use denote.Triple.Statement.{Contract, Triple}
@@ -56,6 +57,9 @@ use Rattle.icmpv6_checksum.proofs.update_checksum as sets
 use Rattle.icmpv6_checksum.proofs.update_checksum.Symbol as sets-def
 use Rattle.icmpv6_checksum.proofs.update_checksum.Symbol.{name as #update-checksum}
 use Rattle.icmpv6_checksum.proofs.update_checksum.Met as sets-thm
+use Rattle.messages.specs.declared.HeaderUpdated.{HeaderUpdated}
+use Rattle.messages.proofs.HeaderUpdated as O
+use Rattle.messages.proofs.HeaderUpdated.Laws as O′
 use Rattle.messages.proofs.updated.Key.{name as #updated}
 use Rattle.messages.proofs.updated as f
 use Rattle.messages.proofs.updated.Statement as stated
@@ -114,12 +118,17 @@ module _ {M : Type 1} (𝓤 : URA M) (H : Heap 𝓤) (A : Atoms 𝓤) (W : Given
   abbrev Own : Fml
   Own = fsep Slice (fsep Source (fsep Destination ftrue))
 
-  exits : Is T.the-row h (mach ∷ []) → (d : Icmpv6Header) (w : Val) → headerTold d ≡ leaves (calcOf (now src) (now dst) (h .«icmp_type») (now p)) (headerTold h)
-      → ent 𝓤 (⋆ 𝓤 H A (‵ (T.the-row .own d (w ∷ [])) ∷ (‵ (flft κₚ qₚ) ⊛ ‵ (flft κₛ qₛ) ⊛ ‵ (flft κₜ qₜ) ⊛ ‵ ftrue) ∷ ‵ Own ∷ [])) (Post w)
-  exits was d w e =
-      qed W (‵ (T.the-row .own d (w ∷ [])) ∷ (‵ (flft κₚ qₚ) ⊛ ‵ (flft κₛ qₛ) ⊛ ‵ (flft κₜ qₜ) ⊛ ‵ ftrue) ∷ ‵ Own ∷ []) ∵
-      suffices ! _ (ends-at 𝓤 H A f.ended stayed (f.clauses 𝓤 H A at-mem run) W (((κₚ, (κₛ, (κₜ, tt))), (qₚ, (qₛ, (qₜ, tt))), tt, x, at), tt) w d (tt, (tt, (tt, (tt, tt)))) (tt, (tt, (tt, (tt, tt))))) $
-      says ! e $ move ! (1 ∷ []) $ frame ! $ owned ! T.the-row (Is T.the-row) (LL.makes T.the-type T′.the-plain 𝓤 H A) h _ was $ move ! (0 ∷ 2 ∷ []) $ fjoin ! $ frame ! $ done !
+  -- what is known of the answer and of the header afterwards
+  abbrev Said : Computed → Icmpv6Header → Type 0
+  Said r d = (computed r ≡ calcOf (now src) (now dst) (h .«icmp_type») (now p)) × (headerTold d ≡ leaves (calcOf (now src) (now dst) (h .«icmp_type») (now p)) (headerTold h))
+
+  exits : Is T.the-row h (mach ∷ []) → (r : HeaderUpdated) → Is O.the-row r (LL.vals O.the-type O′.the-laws r) → Said (r .answer) (r .header)
+      → ent 𝓤 (⋆ 𝓤 H A ((‵ (flft κₚ qₚ) ⊛ ‵ (flft κₛ qₛ) ⊛ ‵ (flft κₜ qₜ) ⊛ ‵ ftrue) ∷ ‵ Own ∷ [])) (Post (LL.val O.the-type O′.the-laws r))
+  exits was r is e =
+      qed W ((‵ (flft κₚ qₚ) ⊛ ‵ (flft κₛ qₛ) ⊛ ‵ (flft κₜ qₜ) ⊛ ‵ ftrue) ∷ ‵ Own ∷ []) ∵
+      suffices ! _ (ends-at 𝓤 H A f.ended stayed (f.clauses 𝓤 H A at-mem run) W (((κₚ, (κₛ, (κₜ, tt))), (qₚ, (qₛ, (qₜ, tt))), tt, x, at), tt) (LL.val O.the-type O′.the-laws r) r (tt, (tt, (tt, (tt, tt)))) (tt, (tt, (tt, (tt, tt))))) $
+      says ! e $ frame ! $ owned ! O.the-row (Is O.the-row) (LL.makes O.the-type O′.the-plain 𝓤 H A) r _ is $
+      owned ! T.the-row (Is T.the-row) (LL.makes T.the-type T′.the-plain 𝓤 H A) h _ was $ move ! (0 ∷ 2 ∷ []) $ fjoin ! $ frame ! $ done !
 
   -- ---- the call: the header at the block l is lent for α under the name γ, and the references go on
   module _ (α l : ℕ) (γ : GName) where
@@ -156,9 +165,16 @@ module _ {M : Type 1} (𝓤 : URA M) (H : Heap 𝓤) (A : Atoms 𝓤) (W : Given
         -- [the destination; the source; the slice]
         nothing ! $ move ! (1 ∷ 0 ∷ []) $ fjoin ! $ move ! (1 ∷ 0 ∷ []) $ fjoin ! $ move ! (1 ∷ 0 ∷ []) $ fjoin ! $ done !
 
-  -- what is known of the answer and of the header afterwards
-  abbrev Said : Computed → Icmpv6Header → Type 0
-  Said r d = (computed r ≡ calcOf (now src) (now dst) (h .«icmp_type») (now p)) × (headerTold d ≡ leaves (calcOf (now src) (now dst) (h .«icmp_type») (now p)) (headerTold h))
+  -- what is handed out, and its machine value, which is made of those of the answer and of the header
+  abbrev both : Computed → Icmpv6Header → HeaderUpdated
+  both r d = record { answer = r; header = d }
+
+  header-is : (d : Icmpv6Header) (w : Val) → Is T.the-row d (w ∷ []) → Is T.the-row d (LL.vals T.the-type T′.the-laws d)
+  header-is d w new = subst (λ (vs : List Val). Is T.the-row d vs) (LL.tells T.the-type T′.the-laws d _ new) new
+
+  both-is : (r : Computed) (d : Icmpv6Header) (u w : Val) → Is C.the-row r (u ∷ []) → Is T.the-row d (w ∷ []) → Is O.the-row (both r d) (LL.vals O.the-type O′.the-laws (both r d))
+  both-is r d u w is new =
+      LL.owes O.the-type O′.the-laws (both r d) (subst (λ (vs : List Val). Is C.the-row r vs) (EL.tells C.the-type C′.the-laws r _ is) is, (header-is d w new, tt))
 
   abbrev Last : Type 0
   Last = Icmpv6Header × (Unit {0} × (Unit {0} × (Unit {0} × Unit {0})))
@@ -168,33 +184,37 @@ module _ {M : Type 1} (𝓤 : URA M) (H : Heap 𝓤) (A : Atoms 𝓤) (W : Given
     walk was slice =
         qed W ((‵ (flft κₚ qₚ) ⊛ ‵ (flft κₛ qₛ) ⊛ ‵ (flft κₜ qₜ) ⊛ ‵ ftrue) ∷ ‵ (owns (T.the-row ∷ ShrSlice (named 0) κₚ u8 ∷ ShrRef (named 1) κₛ (Array u8 16) ∷ ShrRef (named 2) κₜ (Array u8 16) ∷ []) x at) ∷ []) ∵
         enter ! Cs Λ code.function (mach ∷ v ∷ to src ∷ to dst ∷ []) _ $
-        alloc1 ! (λ l₀. alloc1 ! (λ l₁. alloc1 ! (λ l₂. alloc1 ! (λ l₃. alloc1 ! (λ l₄. alloc1 ! (λ l₅. alloc1 ! (λ l₆. alloc1 ! (λ l₇. alloc0 ! $ params1 ! $
-        pass1 ! (init ! 12 refl (LL.lawful T.the-type T′.the-laws 𝓤 H A W .typed h _ was .0)) $ pass1 ! (init ! 10 refl (shr-slice-lawful 𝓤 H A W (named 0) κₚ u8 .typed p (v ∷ []) slice .0)) $
-        pass1 ! (init ! 8 refl (tt, tt)) $ pass1 ! (init ! 6 refl (tt, tt)) $ pass0 ! $
-        assigns ! (of-opd ! (load ! (from ! (stop !)) (look ! 12 refl))) (from ! (stop !)) (init ! 4 refl (LL.lawful T.the-type T′.the-laws 𝓤 H A W .typed h _ was .0)) $
-        assigns ! (addr ! (from ! (stop !))) (from ! (stop !)) (init ! 0 refl (tt, tt)) $
-        -- [_7; …; room for _6; …; _5; …; _4; …; _3; …; _2; …; _1; …; room for _0; …; the tokens; what the parameters own]: the header in _5 is lent
-        move ! (17 ∷ []) $ fsplit ! $ move ! (6 ∷ 0 ∷ []) $ use2 W (‵ (partAt T.the-row fullShare h l₅ 0)) (part-in 𝓤 H A W T.the-row refl fullShare h l₅ 0 mach) $
+        alloc1 ! (λ l₀. alloc1 ! (λ l₁. alloc1 ! (λ l₂. alloc1 ! (λ l₃. alloc1 ! (λ l₄. alloc1 ! (λ l₅. alloc1 ! (λ l₆. alloc1 ! (λ l₇. alloc1 ! (λ l₈. alloc0 ! $ params1 ! $
+        pass1 ! (init ! 14 refl (LL.lawful T.the-type T′.the-laws 𝓤 H A W .typed h _ was .0)) $ pass1 ! (init ! 12 refl (shr-slice-lawful 𝓤 H A W (named 0) κₚ u8 .typed p (v ∷ []) slice .0)) $
+        pass1 ! (init ! 10 refl (tt, tt)) $ pass1 ! (init ! 8 refl (tt, tt)) $ pass0 ! $
+        assigns ! (of-opd ! (load ! (from ! (stop !)) (look ! 14 refl))) (from ! (stop !)) (init ! 6 refl (LL.lawful T.the-type T′.the-laws 𝓤 H A W .typed h _ was .0)) $
+        assigns ! (addr ! (from ! (stop !))) (from ! (stop !)) (init ! 2 refl (tt, tt)) $
+        -- [room for _8; …; _7; …; room for _6; …; _5; …; _4; …; _3; …; _2; …; _1; …; room for _0; …; the tokens; what the parameters own]: the header in _5 is lent
+        move ! (19 ∷ []) $ fsplit ! $ move ! (8 ∷ 0 ∷ []) $ use2 W (‵ (partAt T.the-row fullShare h l₅ 0)) (part-in 𝓤 H A W T.the-row refl fullShare h l₅ 0 mach) $
         lft-new ! tt (λ α. move ! (1 ∷ []) $ use1 W (later (some (λ (γ : GName). ‵ (Lent α l₅ γ) ⊛ ‵ (flent (α ∷ []) (Body (mem T.the-row) l₅ 0 γ))))) (lends-ref 𝓤 H A W T.the-row (named 0) (α ∷ []) h l₅ 0) $ await ! tt $ pick ! (λ γ. split ! $
-        -- [the reference; the lender's part; the new token; what the references own; _7; …; room for _6; …; …; _4; …; _3; …; _2; …; _1; …; room for _0; …; the tokens]
-        move ! (2 ∷ 19 ∷ []) $ join ! $ move ! (0 ∷ 1 ∷ 3 ∷ []) $ use3 W (raw (Sets 𝓤 H A at-mem run .pre (to-sets α l₅ γ)) ⊛ ‵ Own) (goes α l₅ γ) $ split ! $
-        -- [what the callee asks; what the references own; the lender's part; _7; …; room for _6; …; …; _4; …; _3; …; _2; …; _1; …; room for _0; …]
-        calls-at ! fm (Sets 𝓤 H A at-mem run) known (to-sets α l₅ γ) (and-then ! (load ! (from ! (stop !)) (look ! 3 refl)) (and-then ! (load ! (from ! (stop !)) (look ! 12 refl)) (and-then ! (load ! (from ! (stop !)) (look ! 10 refl)) (and-then ! (load ! (from ! (stop !)) (look ! 8 refl)) (no-more !))))) (λ u.
+        -- [the reference; the lender's part; the new token; what the references own; room for _8; …; _7; …; room for _6; …; …; _4; …; _3; …; _2; …; _1; …; room for _0; …; the tokens]
+        move ! (2 ∷ 21 ∷ []) $ join ! $ move ! (0 ∷ 1 ∷ 3 ∷ []) $ use3 W (raw (Sets 𝓤 H A at-mem run .pre (to-sets α l₅ γ)) ⊛ ‵ Own) (goes α l₅ γ) $ split ! $
+        -- [what the callee asks; what the references own; the lender's part; room for _8; …; _7; …; room for _6; …; …; _4; …; _3; …; _2; …; _1; …; room for _0; …]
+        calls-at ! fm (Sets 𝓤 H A at-mem run) known (to-sets α l₅ γ) (and-then ! (load ! (from ! (stop !)) (look ! 5 refl)) (and-then ! (load ! (from ! (stop !)) (look ! 14 refl)) (and-then ! (load ! (from ! (stop !)) (look ! 12 refl)) (and-then ! (load ! (from ! (stop !)) (look ! 10 refl)) (no-more !))))) (λ u.
         use1 W (later (some (λ (r : Computed). (Tokens α l₅ γ ⊛ ‵ (C.the-row .own r (u ∷ []))) ⊛ raw (ensured 𝓤 H A sets.ended (sets.clauses 𝓤 H A at-mem run) (α ∷ [], (κₚ, (κₛ, (κₜ, tt)))) (given α l₅ γ) tt r)))) (id⊢ 𝓤 _) $ await ! tt $ pick ! (λ r.
         split ! $ move ! (1 ∷ []) $ use1 W (some (λ (ws : Last). ‵ (lasts sets.ended (α ∷ [], (κₚ, (κₛ, (κₜ, tt)))) (given α l₅ γ) ws) ⊛ raw (fact 𝓤 (Said r (ws .0))))) (id⊢ 𝓤 _) $ pick ! (λ ws.
         split ! $ move ! (1 ∷ []) $ heard ! (Said r (ws .0)) (λ e. fsplit ! $ move ! (1 ∷ []) $ drop ! $ move ! (1 ∷ []) $ split ! $ move ! (1 ∷ []) $
-        -- [the answer; the tokens; the header's last value; what the references own; the lender's part; _7; …; room for _6; …]
-        peeks ! C.the-row (Is C.the-row) (shows 𝓤 H A C.the-row) r (u ∷ []) (λ is.
-        land ! (from ! (stop !)) (init ! 7 refl (EL.lawful C.the-type C′.the-laws 𝓤 H A W tt .typed r _ is .0)) $
+        -- [what the answer owns; the tokens; the header's last value; what the references own; the lender's part; room for _8; …; _7; …; room for _6; …]
+        facts ! C.the-row (Is C.the-row) (shows 𝓤 H A C.the-row) r (u ∷ []) (λ is.
+        land ! (from ! (stop !)) (init ! 8 refl (EL.lawful C.the-type C′.the-laws 𝓤 H A W tt .typed r _ is .0)) $
         -- the lifetime is ended, and the header taken back
-        drop ! $ split ! $ lft-end ! tt $ move ! (0 ∷ 4 ∷ 2 ∷ []) $ use3 W (later (‵ (partAt T.the-row fullShare (ws .0) l₅ 0))) (ref-back 𝓤 H A W T.the-row (α ∷ []) γ (ws .0) l₅ 0) $ await ! tt $
+        split ! $ lft-end ! tt $ move ! (0 ∷ 4 ∷ 2 ∷ []) $ use3 W (later (‵ (partAt T.the-row fullShare (ws .0) l₅ 0))) (ref-back 𝓤 H A W T.the-row (α ∷ []) γ (ws .0) l₅ 0) $ await ! tt $
         use1 W (some (λ (w : Val). ‵ (fat fullShare (lone (T.the-row .mir)) l₅ 0 w) ⊛ ‵ (T.the-row .own (ws .0) (w ∷ [])))) (part-out 𝓤 H A W T.the-row refl fullShare (ws .0) l₅ 0) $ pick ! (λ w. split ! $ move ! (1 ∷ []) $
-        -- [what the header owns; _5; the tokens; what the references own; _7; …; _6; …; …; _4; …; _3; …; _2; …; _1; …; room for _0; …]
-        peeks ! T.the-row (Is T.the-row) (shows 𝓤 H A T.the-row) (ws .0) (w ∷ []) (λ new.
-        assigns ! (of-opd ! (load ! (from ! (stop !)) (look ! 1 refl))) (from ! (stop !)) (init ! 17 refl (LL.lawful T.the-type T′.the-laws 𝓤 H A W .typed (ws .0) _ new .0)) $
-        returns ! (look ! 17 refl) $ forget ! 1 refl $ forget ! 4 refl $ forget ! 6 refl $ forget ! 9 refl $ forget ! 11 refl $ forget ! 13 refl $ forget ! 15 refl $ forget ! 17 refl $
-        move ! (17 ∷ 18 ∷ []) $ free1 ! $ move ! (15 ∷ 16 ∷ []) $ free1 ! $ move ! (13 ∷ 14 ∷ []) $ free1 ! $ move ! (11 ∷ 12 ∷ []) $ free1 ! $ move ! (9 ∷ 10 ∷ []) $ free1 ! $ move ! (1 ∷ 8 ∷ []) $ free1 ! $ move ! (5 ∷ 6 ∷ []) $ free1 ! $ move ! (3 ∷ 4 ∷ []) $ free1 ! $ free0 ! $
-        by ! (exits was (ws .0) w (e .1)))))))))))))))))))
+        facts ! T.the-row (Is T.the-row) (shows 𝓤 H A T.the-row) (ws .0) (w ∷ []) (λ new.
+        -- [_5; the tokens; what the references own; room for _8; …; _7; …; _6; …; …; _4; …; _3; …; _2; …; _1; …; room for _0; …]: the machine values of header and answer are written out
+        rewrite ! 0 (λ (z : Val). ‵ (fat fullShare (lone (T.the-row .mir)) l₅ 0 z)) (ap only (LL.tells T.the-type T′.the-laws (ws .0) _ new)) refl $
+        rewrite ! 7 (λ (z : Val). ‵ (fat fullShare (lone (C.the-row .mir)) l₆ 0 z)) (ap only (EL.tells C.the-type C′.the-laws r _ is)) refl $
+        assigns ! (of-opd ! (load ! (from ! (stop !)) (look ! 0 refl))) (from ! (stop !)) (init ! 3 refl (LL.lawful T.the-type T′.the-laws 𝓤 H A W .typed (ws .0) _ (header-is (ws .0) w new) .0)) $
+        assigns ! (agg ! (and-then ! (load ! (from ! (stop !)) (look ! 7 refl)) (and-then ! (load ! (from ! (stop !)) (look ! 3 refl)) (no-more !)))) (from ! (stop !))
+        (init ! 18 refl (LL.lawful O.the-type O′.the-laws 𝓤 H A W .typed (both r (ws .0)) _ (both-is r (ws .0) u w is new) .0)) $
+        returns ! (look ! 18 refl) $ forget ! 0 refl $ forget ! 3 refl $ forget ! 5 refl $ forget ! 7 refl $ forget ! 10 refl $ forget ! 12 refl $ forget ! 14 refl $ forget ! 16 refl $ forget ! 18 refl $
+        move ! (18 ∷ 19 ∷ []) $ free1 ! $ move ! (16 ∷ 17 ∷ []) $ free1 ! $ move ! (14 ∷ 15 ∷ []) $ free1 ! $ move ! (12 ∷ 13 ∷ []) $ free1 ! $ move ! (10 ∷ 11 ∷ []) $ free1 ! $ move ! (0 ∷ 9 ∷ []) $ free1 ! $ move ! (6 ∷ 7 ∷ []) $ free1 ! $ move ! (4 ∷ 5 ∷ []) $ free1 ! $ move ! (2 ∷ 3 ∷ []) $ free1 ! $ free0 ! $
+        by ! (exits was (both r (ws .0)) (both-is r (ws .0) u w is new) e)))))))))))))))))))
 
 module _ {M : Type 1} (𝓤 : URA M) (H : Heap 𝓤) (A : Atoms 𝓤) (W : Given 𝓤 H A) (at-mem : Memory → SProp 𝓤) (run : Routine → Fun 𝓤) where
   walks : (Cs : Calls 𝓤 H) (Λ : Loops 𝓤 H) → FmC 𝓤 H (W .laws) Cs → Triple 𝓤 (Cs #update-checksum) (Sets 𝓤 H A at-mem run) → Walks 𝓤 H A f.ended stayed (WpFn 𝓤 H Cs Λ code.function) (f.clauses 𝓤 H A at-mem run)
