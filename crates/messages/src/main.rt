@@ -1,11 +1,19 @@
 // The five messages of Neighbor Discovery (RFC 4861, sections 4.1 to 4.5), as a sender makes them with this library: options, fixed part, packet,
 // record. Each is taken as a receiver would take it before its record goes to standard output: head, fixed part and link-layer address must be those
-// that were sent. `tests/messages.py` makes the bytes that must come out, without the library.
+// that were sent. `tests/messages.py` makes the bytes that must come out, without the library. Two functions have a proof by hand, since the borrow
+// checker covers no record that is lent and no struct that holds a slice; each is no more than its call.
+ghost use mathlib.Core.Path.{_≡_};
+ghost use lib.ListN.{drop};
+ghost use Rattle.icmpv6.specs.Head.{headerTold};
+ghost use Rattle.checksum.specs.Told.{computed};
+ghost use Rattle.icmpv6_checksum.specs.Header.{calcOf, leaves};
 use capture::part;
 use capture::write_record;
+use checksum::Computed;
 use icmpv6::icmpv6_header::Icmpv6Header;
 use icmpv6_checksum::HeaderMade;
 use icmpv6_checksum::to_header;
+use icmpv6_checksum::update_checksum;
 use icmpv6_headers::neighbor_advertisement_header::NeighborAdvertisementHeader;
 use icmpv6_headers::router_advertisement_header::RouterAdvertisementHeader;
 use icmpv6_payload::FixedPart;
@@ -19,8 +27,11 @@ use icmpv6_type::Icmpv6Type;
 use libc::STDOUT_FILENO;
 use message_table::types;
 use ndp_option::link_layer_address_option::LinkLayerAddressOption;
+use ndp_option::unknown_option;
+use ndp_option_read::NdpOptionRead;
 use ndp_options::Cursor;
 use ndp_options::Step;
+use ndp_walker::Walker;
 use option_writer::write_link_layer_address;
 use option_writer::write_mtu;
 use option_writer::write_prefix_information;
@@ -52,14 +63,37 @@ fn say(text: &[u8]) {
     io::write_all(STDOUT_FILENO, text);
 }
 
+// Whether an option that was handed out is one of its own type, whatever that is.
+fn is_option(option: &[u8]) -> bool {
+    match unknown_option::from_slice(option) {
+        NdpOptionRead::Accepted => true,
+        NdpOptionRead::Refused(_) => false,
+    }
+}
+
 // Whether an option is the sender's or the target's link-layer address.
 fn is_link_layer(option: &[u8]) -> bool {
+    if !is_option(option) {
+        return false;
+    }
     let source = LinkLayerAddressOption::Source;
     let target = LinkLayerAddressOption::Target;
     if check::same(source.link_layer_address(option), &LINK_LAYER) {
         return true;
     }
     check::same(target.link_layer_address(option), &LINK_LAYER)
+}
+
+// The bytes from a place on, as a walker there hands them out.
+fn walker_rest<'a>(options: &'a [u8], at: usize) -> &'a [u8]
+    ensures { λ r. ⌜ now r ≡ drop at (now (options .entry)) ⌝ }
+{
+    ndp_walker::rest(Walker { options, at })
+}
+
+// Whether a walker at the cursor's place has the bytes that the cursor has.
+fn walks_on(options: &[u8], next: Cursor) -> bool {
+    check::same(walker_rest(options, next.at), next.rest(options))
 }
 
 // Whether a receiver is handed an option of the packet, and finds the link-layer address in the first.
@@ -69,7 +103,9 @@ fn has_options(packet: &[u8], message: Icmpv6PayloadSlice) -> bool {
     };
     let options = start.rest(packet);
     match ndp_walker::first_step(options) {
-        Step::Handed(option, _) => is_link_layer(option.bytes(options)),
+        Step::Handed(option, next) => {
+            walks_on(options, next) && is_link_layer(option.bytes(options))
+        }
         Step::End => false,
         Step::Refused(_, _) => false,
         Step::Stopped => false,
@@ -123,6 +159,53 @@ fn is_headed(header: Icmpv6Header, payload: &[u8], packet: &[u8]) -> bool {
     check::same(part(packet, header.header_len(), packet.len()), payload)
 }
 
+// What `update_checksum` answers, and the header that it leaves.
+struct HeaderUpdated {
+    answer: Computed,
+    header: Icmpv6Header,
+}
+
+// A header that was lent for its checksum to be set.
+fn updated(
+    h: Icmpv6Header,
+    payload: &[u8],
+    source: &[u8; 16],
+    destination: &[u8; 16],
+) -> HeaderUpdated
+    ensures { λ r. ⌜ (computed (r .answer) ≡ calcOf (now (source .entry)) (now (destination .entry)) (h .«icmp_type») (now (payload .entry)))
+        × (headerTold (r .header) ≡ leaves (calcOf (now (source .entry)) (now (destination .entry)) (h .«icmp_type») (now (payload .entry))) (headerTold h)) ⌝ }
+{
+    let mut header = h;
+    let answer = update_checksum(&mut header, payload, source, destination);
+    HeaderUpdated { answer, header }
+}
+
+// Whether an answer is the checksum that a header has.
+fn is_answered(answer: Computed, header: Icmpv6Header) -> bool {
+    match answer {
+        Computed::Checksum(n) => n == header.checksum,
+        Computed::Refused(_) => false,
+    }
+}
+
+// Whether a packet is what a header with another checksum is once its own is set.
+fn is_as_updated(
+    icmp_type: Icmpv6Type,
+    source: &[u8; 16],
+    destination: &[u8; 16],
+    payload: &[u8],
+    packet: &[u8],
+) -> bool {
+    let other = Icmpv6Header {
+        icmp_type,
+        checksum: 1,
+    };
+    let after = updated(other, payload, source, destination);
+    let answer = after.answer;
+    let header = after.header;
+    is_answered(answer, header) && is_headed(header, payload, packet)
+}
+
 // Whether a packet is what a header made for the payload says.
 fn is_as_made(
     icmp_type: Icmpv6Type,
@@ -152,6 +235,9 @@ fn send(icmp_type: Icmpv6Type, source: &[u8; 16], destination: &[u8; 16], payloa
             let sent = part(&packet, 0, n);
             if !is_as_made(icmp_type, source, destination, payload, sent) {
                 say(b"another head\n");
+            }
+            if !is_as_updated(icmp_type, source, destination, payload, sent) {
+                say(b"another checksum\n");
             }
             if !has_fixed_part(icmp_type.type_u8(), payload) {
                 say(b"no fixed part\n");
