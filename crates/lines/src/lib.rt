@@ -57,8 +57,11 @@ pub fn put_line(out: &mut [u8], at: usize, line: Line) -> Written
     ensures answers { λ r. ⌜ (writtenTold r ≡ roomFor (length (text line)) (now (out .entry)) at) × (length (text line) ≤ 128) ⌝ }
     ensures lent { λ r. ⌜ now (out .exit) ≡ leaves (roomFor (length (text line)) (now (out .entry)) at) (now (out .entry)) at (text line) ⌝ }
 {
-    if LONGEST <= output::room(out, at) {
-        return Written::To(put_text(out, at, line));
+    // Not asked of `room`: of a buffer whose length is known this is one comparison.
+    if LONGEST <= out.len() {
+        if at <= out.len() - LONGEST {
+            return Written::To(put_text(out, at, line));
+        }
     }
     let mut own = [0u8; 128];
     let n = put_text(&mut own, 0, line);
@@ -73,7 +76,10 @@ fn put_text(out: &mut [u8], at: usize, line: Line) -> usize
 {
     match line {
         Line::Title => put_bytes(out, at, b"icmp6 1\n"),
-        Line::Record { number, place } => put_two(out, at, b"record ", number, b" at ", place),
+        Line::Record { number, place } => {
+            let a = put_field(out, at, b"record ", number);
+            put_one(out, a, b" at ", place)
+        }
         Line::Head {
             kind,
             code,
@@ -84,27 +90,20 @@ fn put_text(out: &mut [u8], at: usize, line: Line) -> usize
         } => put_head(out, at, kind, code, sum, ok, len, recv),
         Line::Opt { place, kind, bytes } => {
             let a = put_field(out, at, b"opt ", place);
-            put_two(out, a, b" type ", kind as u64, b" bytes ", bytes)
+            let b = put_field(out, a, b" type ", kind as u64);
+            put_one(out, b, b" bytes ", bytes)
         }
         Line::End { number } => put_one(out, at, b"end ", number),
-        Line::RefusedAt { number, place } => put_two(
-            out,
-            at,
-            b"refused ",
-            number as u64,
-            b" at ",
-            place,
-        ),
+        Line::RefusedAt { number, place } => {
+            let a = put_field(out, at, b"refused ", number as u64);
+            put_one(out, a, b" at ", place)
+        }
         Line::Refused { number } => put_one(out, at, b"refused ", number as u64),
         Line::Records { number } => put_one(out, at, b"records ", number),
-        Line::Stopped { number, place } => put_two(
-            out,
-            at,
-            b"stopped ",
-            number as u64,
-            b" at ",
-            place,
-        ),
+        Line::Stopped { number, place } => {
+            let a = put_field(out, at, b"stopped ", number as u64);
+            put_one(out, a, b" at ", place)
+        }
     }
 }
 
@@ -165,16 +164,6 @@ fn put_verdict(out: &mut [u8], at: usize, ok: bool) -> usize
     }
 }
 
-// Two fields and the end of the line, as `record 1 at 0`.
-fn put_two(out: &mut [u8], at: usize, name: &[u8], n: u64, other: &[u8], m: u64) -> usize
-    requires { ⌜ at + length (now name) + length (now other) + 41 ≤ length (now out) ⌝ }
-    ensures wrote { λ r. ⌜ Wrote (now (out .entry)) at (field (now (name .entry)) n ++ (field (now (other .entry)) m ++ newline)) (now (out .exit)) r ⌝ }
-    ensures short { λ r. ⌜ r ≤ at + length (now (name .entry)) + length (now (other .entry)) + 41 ⌝ }
-{
-    let a = put_field(out, at, name, n);
-    put_one(out, a, other, m)
-}
-
 // One field and the end of the line, as `records 2`.
 fn put_one(out: &mut [u8], at: usize, name: &[u8], n: u64) -> usize
     requires { ⌜ at + length (now name) + 21 ≤ length (now out) ⌝ }
@@ -192,26 +181,38 @@ fn put_field(out: &mut [u8], at: usize, name: &[u8], n: u64) -> usize
     ensures short { λ r. ⌜ r ≤ at + length (now (name .entry)) + 20 ⌝ }
 {
     let next = put_bytes(out, at, name);
-    // Most numbers of a listing have one digit, and need no call.
-    if n < 10 {
-        return put_byte(out, next, 48 + n as u8);
+    // Most numbers of a listing have one digit or two, and need no call.
+    if n < 100 {
+        return put_few(out, next, n);
     }
     put_decimal(out, next, n)
 }
 
-// Two digits at a time.
+// Two digits at a time; up to four of them need no further call.
 fn put_decimal(out: &mut [u8], at: usize, n: u64) -> usize
     requires { ⌜ at + length (decimal n) ≤ length (now out) ⌝ }
+    ensures { λ r. ⌜ Wrote (now (out .entry)) at (decimal n) (now (out .exit)) r ⌝ }
+{
+    if n < 100 {
+        return put_few(out, at, n);
+    }
+    if n < 10000 {
+        let next = put_few(out, at, n / 100);
+        return put_pair(out, next, n % 100);
+    }
+    let next = put_decimal(out, at, n / 100);
+    put_pair(out, next, n % 100)
+}
+
+// One digit or two.
+fn put_few(out: &mut [u8], at: usize, n: u64) -> usize
+    requires { ⌜ (n < 100) × (at + length (decimal n) ≤ length (now out)) ⌝ }
     ensures { λ r. ⌜ Wrote (now (out .entry)) at (decimal n) (now (out .exit)) r ⌝ }
 {
     if n < 10 {
         return put_byte(out, at, 48 + n as u8);
     }
-    if n < 100 {
-        return put_pair(out, at, n);
-    }
-    let next = put_decimal(out, at, n / 100);
-    put_pair(out, next, n % 100)
+    put_pair(out, at, n)
 }
 
 fn put_pair(out: &mut [u8], at: usize, n: u64) -> usize
@@ -253,9 +254,7 @@ fn put_bytes(out: &mut [u8], at: usize, bytes: &[u8]) -> usize
     requires { ⌜ at + length (now bytes) ≤ length (now out) ⌝ }
     ensures { λ r. ⌜ Wrote (now (out .entry)) at (now (bytes .entry)) (now (out .exit)) r ⌝ }
 {
-    match output::put(out, at, bytes) {
-        Written::To(next) => next,
-        // Never: they fit.
-        Written::Refused(_) => at,
-    }
+    let end = at + bytes.len();
+    output::put(&mut out[at..end], 0, bytes);
+    end
 }

@@ -1,7 +1,7 @@
 -- `lines::put_field` meets its contract: a number has at most twenty digits.
 -- Assumes nothing.
 use Rattle.output.proofs.Wrote.{_then_}
-use Rattle.lines.proofs.Digits.{decimal-one, twenty}
+use Rattle.lines.proofs.Digits.{twenty}
 use Rattle.lines.specs.Text.{field}
 use native.Mathlib.Omega.{arith}
 use borrow.Author.Needs.{needs}
@@ -11,14 +11,12 @@ use Rattle.lines.proofs.put_field.Tie as tie
 put-bytes-requires : tie.Need-put-bytes-requires
 put-bytes-requires c κs = search needs
 
-cast-put-byte : tie.Need-cast-put-byte
-cast-put-byte c = search needs
-
-add-put-byte : tie.Need-add-put-byte
-add-put-byte c = search needs
-
-put-byte-requires : tie.Need-put-byte-requires
-put-byte-requires c κs = search needs
+put-few-requires : tie.Need-put-few-requires
+put-few-requires c κs =
+    let i = c .before in
+    let t = i .before .before .before in
+    let a = t .before .before .before .before in
+    (i .if1 .taken, omega (arith, t .put-bytes .ensures .ends, twenty (a .args .n) (a .fits .n .fits)))
 
 same-length : tie.Need-same-length
 same-length c = search needs
@@ -27,10 +25,9 @@ returns : tie.Need-returns
 unfolding field
 returns c =
     let d = c .before .before in
-    let i = d .before .before in
-    let t = i .before .before .before in
+    let t = d .before .before .before .before .before in
     let a = t .before .before .before .before in
-    (rw (decimal-one (a .args .n) (i .if1 .taken)) (t .put-bytes .ensures then d .put-byte .ensures), omega (arith, t .put-bytes .ensures .ends, d .put-byte .ensures .ends))
+    (t .put-bytes .ensures then d .put-few .ensures, omega (arith, t .put-bytes .ensures .ends, d .put-few .ensures .ends, twenty (a .args .n) (a .fits .n .fits)))
 
 put-decimal-requires : tie.Need-put-decimal-requires
 put-decimal-requires c κs =
@@ -54,9 +51,7 @@ put-field-spec =
     tie.close
     (tie.spec
     put-bytes-requires
-    cast-put-byte
-    add-put-byte
-    put-byte-requires
+    put-few-requires
     same-length
     returns
     put-decimal-requires

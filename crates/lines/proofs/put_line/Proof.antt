@@ -12,8 +12,8 @@ use borrow.Author.Needs.{needs}
 use Rattle.lines.proofs.put_line.Statement.{statement}
 use Rattle.lines.proofs.put_line.Tie as tie
 
-room-requires : tie.Need-room-requires
-room-requires c κs = search needs
+sub-if2 : tie.Need-sub-if2
+sub-if2 c = search needs
 
 put-text-requires : tie.Need-put-text-requires
 put-text-requires c κs = search needs
@@ -25,10 +25,10 @@ returns : tie.Need-returns
 returns c =
     let l = c .before .before in
     let i = l .before .before in
-    let a = i .before .before .before .before .args in
+    let a = i .before .before .before .args in
     let w = l .put-text .ensures .0 in
     let few : length (text (a .line)) ≤ 128 = omega (arith, w .ends, l .put-text .ensures .1) in
-    simp (fits (length (text (a .line))) (now (a .out)) (a .at) (omega (arith, i .if1 .taken, i .before .room .ensures)), w .ends) ((refl, few), w .holds)
+    simp (fits (length (text (a .line))) (now (a .out)) (a .at) (omega (arith, i .if2 .taken, i .before .if1 .taken)), w .ends) ((refl, few), w .holds)
 
 slice-aggregate-put-text : tie.Need-slice-aggregate-put-text
 slice-aggregate-put-text c = search needs
@@ -41,7 +41,7 @@ array-share-prefix-own c = search needs
 
 -- what the line's own bytes are
 abbrev Own : tie.After-put-text2 → Type 0
-Own c = take (c .put-text2 .result) (c .put-text2 .last .0) ≡ text (c .before .before .before .before .before .before .args .line)
+Own c = take (c .put-text2 .result) (c .put-text2 .last .0) ≡ text (c .before .before .before .before .args .line)
 
 own : (c : tie.After-put-text2) → Own c
 own c = start _ _ _ _ (c .put-text2 .ensures .0)
@@ -61,7 +61,7 @@ returns-2 : tie.Need-returns-2
 returns-2 c =
     let p = c .before .before in
     let l = p .before .before .before .before in
-    let a = l .before .before .before .before .before .before .args in
+    let a = l .before .before .before .before .args in
     let few : length (text (a .line)) ≤ 128 = omega (arith, l .put-text2 .ensures .0 .ends, l .put-text2 .ensures .1) in
     simp (p .put .ensures .0, own l) ((refl, few), rw (own l) at (p .put .ensures .1))
 
@@ -69,7 +69,7 @@ pub put-line-spec : {M : Type 1} → statement M
 put-line-spec =
     tie.close
     (tie.spec
-    room-requires
+    sub-if2
     put-text-requires
     same-length
     returns
