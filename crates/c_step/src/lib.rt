@@ -72,7 +72,9 @@ pub extern "C" fn brothladder_step(options: &[u8], at: usize) -> Stepped
         Step::End => bare(c_answer::END, 0, [0, 0, 0, 0], at),
         Step::Refused(why, next) => {
             let n = why.numbers();
-            let value = n.values;
+            // One by one: kept as an array, they cost the answer of an option two registers.
+            let v = n.values;
+            let value = [v[0], v[1], v[2], v[3]];
             bare(c_answer::REFUSED, n.number as u32, value, next.at)
         }
         Step::Stopped => bare(c_answer::STOPPED, 0, [0, 0, 0, 0], at),

@@ -15,8 +15,8 @@ enum-known-option c = search needs
 kind-number-requires : tie.Need-kind-number-requires
 kind-number-requires c κs = search needs
 
-cast-t16 : tie.Need-cast-t16
-cast-t16 c = search needs
+cast-t17 : tie.Need-cast-t17
+cast-t17 c = search needs
 
 enum-told : tie.Need-enum-told
 enum-told c = search needs
@@ -29,6 +29,18 @@ enum-known-why c = search needs
 
 numbers-requires : tie.Need-numbers-requires
 numbers-requires c κs = search needs
+
+array-read-t21 : tie.Need-array-read-t21
+array-read-t21 c = search needs
+
+array-read-t24 : tie.Need-array-read-t24
+array-read-t24 c = search needs
+
+array-read-t27 : tie.Need-array-read-t27
+array-read-t27 c = search needs
+
+array-read-t30 : tie.Need-array-read-t30
+array-read-t30 c = search needs
 
 cast-bare : tie.Need-cast-bare
 cast-bare c = search needs
@@ -65,11 +77,15 @@ brothladder-step-spec =
     step-requires
     enum-known-option
     kind-number-requires
-    cast-t16
+    cast-t17
     enum-told
     bare-requires
     enum-known-why
     numbers-requires
+    array-read-t21
+    array-read-t24
+    array-read-t27
+    array-read-t30
     cast-bare
     bare-requires-2
     enum-told-2
