@@ -74,8 +74,12 @@ pub extern "C" fn brothladder_step(options: &[u8], at: usize) -> Stepped
             let n = why.numbers();
             // One by one: kept as an array, they cost the answer of an option two registers.
             let v = n.values;
-            let value = [v[0], v[1], v[2], v[3]];
-            bare(c_answer::REFUSED, n.number as u32, value, next.at)
+            bare(
+                c_answer::REFUSED,
+                n.number as u32,
+                [v[0], v[1], v[2], v[3]],
+                next.at,
+            )
         }
         Step::Stopped => bare(c_answer::STOPPED, 0, [0, 0, 0, 0], at),
     }

@@ -15,8 +15,8 @@ enum-known-option c = search needs
 kind-number-requires : tie.Need-kind-number-requires
 kind-number-requires c κs = search needs
 
-cast-t17 : tie.Need-cast-t17
-cast-t17 c = search needs
+cast-t16 : tie.Need-cast-t16
+cast-t16 c = search needs
 
 enum-told : tie.Need-enum-told
 enum-told c = search needs
@@ -30,6 +30,9 @@ enum-known-why c = search needs
 numbers-requires : tie.Need-numbers-requires
 numbers-requires c κs = search needs
 
+cast-bare : tie.Need-cast-bare
+cast-bare c = search needs
+
 array-read-t21 : tie.Need-array-read-t21
 array-read-t21 c = search needs
 
@@ -41,9 +44,6 @@ array-read-t27 c = search needs
 
 array-read-t30 : tie.Need-array-read-t30
 array-read-t30 c = search needs
-
-cast-bare : tie.Need-cast-bare
-cast-bare c = search needs
 
 bare-requires-2 : tie.Need-bare-requires-2
 bare-requires-2 c κs = search needs
@@ -77,16 +77,16 @@ brothladder-step-spec =
     step-requires
     enum-known-option
     kind-number-requires
-    cast-t17
+    cast-t16
     enum-told
     bare-requires
     enum-known-why
     numbers-requires
+    cast-bare
     array-read-t21
     array-read-t24
     array-read-t27
     array-read-t30
-    cast-bare
     bare-requires-2
     enum-told-2
     bare-requires-3
