@@ -72,7 +72,7 @@ pub extern "C" fn brothladder_step(options: &[u8], at: usize) -> Stepped
         Step::End => bare(c_answer::END, 0, [0, 0, 0, 0], at),
         Step::Refused(why, next) => {
             let n = why.numbers();
-            // One by one: kept as an array, they cost the answer of an option two registers.
+            // One by one: passed as the array, they make every other step dearer.
             let v = n.values;
             bare(
                 c_answer::REFUSED,
