@@ -72,8 +72,14 @@ pub extern "C" fn brothladder_step(options: &[u8], at: usize) -> Stepped
         Step::End => bare(c_answer::END, 0, [0, 0, 0, 0], at),
         Step::Refused(why, next) => {
             let n = why.numbers();
-            let value = n.values;
-            bare(c_answer::REFUSED, n.number as u32, value, next.at)
+            // One by one: passed as the array, they make every other step dearer.
+            let v = n.values;
+            bare(
+                c_answer::REFUSED,
+                n.number as u32,
+                [v[0], v[1], v[2], v[3]],
+                next.at,
+            )
         }
         Step::Stopped => bare(c_answer::STOPPED, 0, [0, 0, 0, 0], at),
     }

@@ -216,8 +216,8 @@ fn is_far(packet: &[u8], hop_limit: u8) -> bool
 pub fn judge(packet: &[u8], hop_limit: u8, source: &[u8; 16], destination: &[u8; 16]) -> Judged
     ensures { λ r. ⌜ judgedTold r ≡ judgedOf «hop_limit» (now (source .entry)) (now (destination .entry)) (now (packet .entry)) ⌝ }
 {
-    let opened = Icmpv6PayloadSlice::from_packet(packet);
     let valid = validates(packet, source, destination);
+    let opened = Icmpv6PayloadSlice::from_packet(packet);
     Judged {
         opened,
         valid,

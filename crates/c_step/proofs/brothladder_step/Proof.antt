@@ -33,6 +33,18 @@ numbers-requires c κs = search needs
 cast-bare : tie.Need-cast-bare
 cast-bare c = search needs
 
+array-read-t21 : tie.Need-array-read-t21
+array-read-t21 c = search needs
+
+array-read-t24 : tie.Need-array-read-t24
+array-read-t24 c = search needs
+
+array-read-t27 : tie.Need-array-read-t27
+array-read-t27 c = search needs
+
+array-read-t30 : tie.Need-array-read-t30
+array-read-t30 c = search needs
+
 bare-requires-2 : tie.Need-bare-requires-2
 bare-requires-2 c κs = search needs
 
@@ -71,6 +83,10 @@ brothladder-step-spec =
     enum-known-why
     numbers-requires
     cast-bare
+    array-read-t21
+    array-read-t24
+    array-read-t27
+    array-read-t30
     bare-requires-2
     enum-told-2
     bare-requires-3
