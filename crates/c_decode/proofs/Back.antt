@@ -12,12 +12,12 @@ use Rattle.icmpv6_type.specs.declared.Icmpv6Type.the-variants.{Unknown, Destina
 use Rattle.icmpv6_type.specs.Value.{typeTold}
 use Rattle.icmpv6_type.specs.From.{typeFrom}
 use Rattle.icmpv6_type.proofs.Paper.{type-back}
-use Rattle.icmpv6.specs.Head.{readTold}
+use Rattle.icmpv6.specs.Head.{headerReadTold}
 use Rattle.icmpv6.specs.declared.icmpv6_header.HeaderRead.{HeaderRead}
 use Rattle.icmpv6.specs.declared.icmpv6_header.HeaderRead.the-variants.{Header, Refused as NoHeader}
 use Rattle.c_answer.specs.Answer.{UNKNOWN}
 use Rattle.c_decode.specs.declared.Head.{Head}
-use Rattle.c_decode.specs.Head.{headOf, headFor}
+use Rattle.c_decode.specs.Head.{headOfValue, headFor}
 
 -- the value on paper, from type, code and fields
 abbrev toldFrom : Head → List ℕ
@@ -27,7 +27,7 @@ toldFrom h =
     (cond (eqb (h .«icmp_type») 1) coded
     (cond (eqb (h .«icmp_type») 3) coded (cond (eqb (h .«icmp_type») 4) coded (h .«icmp_type» ∷ h .field))))
 
-value-back : (sum : ℕ) (t : Icmpv6Type) → typeFrom (toldFrom (headOf sum (typeTold t))) ≡ t
+value-back : (sum : ℕ) (t : Icmpv6Type) → typeFrom (toldFrom (headOfValue sum (typeTold t))) ≡ t
 value-back sum (Unknown k c w) = refl
 value-back sum (DestinationUnreachable c) = type-back (DestinationUnreachable c)
 value-back sum (PacketTooBig mtu) = refl
@@ -46,7 +46,7 @@ headerFrom h =
     cond (eqb (h .refusal) 0) (Header (record { «icmp_type» = typeFrom (toldFrom h); checksum = h .checksum }))
     (NoHeader (why (h .refusal) (h .value)))
 
-pub head-back : (r : HeaderRead) → headerFrom (headFor (readTold r)) ≡ r
+pub head-back : (r : HeaderRead) → headerFrom (headFor (headerReadTold r)) ≡ r
 unfolding headFor
 head-back (Header h) = rw (value-back (h .checksum) (h .«icmp_type»))
 head-back (NoHeader r) = simp (refusal-numbered r) (ap NoHeader (why-back r))

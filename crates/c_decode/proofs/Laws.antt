@@ -9,9 +9,9 @@ use Rattle.wire.proofs.Cases.{cases}
 use Rattle.message_table.proofs.View.{Known, unreachable, tooBig, exceeded, problem, echoRequest, echoReply, routerSolicitation, routerAdvertisement, neighborSolicitation, neighborAdvertisement, redirect}
 use Rattle.icmpv6_type.specs.Value.{fieldsOf}
 use Rattle.c_answer.specs.Answer.{KNOWN, none}
-use Rattle.c_decode.specs.Head.{fieldsFor, head, headOf}
+use Rattle.c_decode.specs.Head.{fieldsFor, head, headOfValue}
 
-pub known-head : (sum : ℕ) (b : List ℕ) {k c : ℕ} → Known k c → headOf sum (k ∷ fieldsOf k c b) ≡ head KNOWN k c sum (fieldsFor k b)
+pub known-head : (sum : ℕ) (b : List ℕ) {k c : ℕ} → Known k c → headOfValue sum (k ∷ fieldsOf k c b) ≡ head KNOWN k c sum (fieldsFor k b)
 known-head sum b (unreachable h) = refl
 known-head sum b tooBig = refl
 known-head sum b (exceeded h) = refl

@@ -14,14 +14,14 @@ use Rattle.c_answer.specs.Answer.{REFUSED, KNOWN, UNKNOWN, none}
 use Rattle.c_decode.specs.declared.Head.{Head}
 
 -- of an Unknown, of a type that keeps its code, of another
-abbrev pub among : List ℕ → {A : Type 0} → A → A → A → A
-among v unknown coded other =
+abbrev pub byForm : List ℕ → {A : Type 0} → A → A → A → A
+byForm v unknown coded other =
     cond (eqb (getD v 0 0) 0) unknown
     (cond (eqb (getD v 0 0) 1) coded (cond (eqb (getD v 0 0) 3) coded (cond (eqb (getD v 0 0) 4) coded other)))
 
 -- what the value keeps of bytes 4 to 7
 abbrev pub keptOf : List ℕ → List ℕ
-keptOf v = slots (among v (drop 3 v) (drop 2 v) (drop 1 v))
+keptOf v = slots (byForm v (drop 3 v) (drop 2 v) (drop 1 v))
 
 -- the same by type and bytes: the code, whichever it is, is no part of it
 abbrev pub fieldsFor : ℕ → List ℕ → List ℕ
@@ -40,18 +40,18 @@ head answer type code checksum field =
     }
 
 -- the checksum field and the value
-abbrev pub headOf : ℕ → List ℕ → Head
-headOf checksum v =
-    head (among v UNKNOWN KNOWN KNOWN) (among v (getD v 1 0) (getD v 0 0) (getD v 0 0)) (among v (getD v 2 0) (getD v 1 0) 0) checksum
+abbrev pub headOfValue : ℕ → List ℕ → Head
+headOfValue checksum v =
+    head (byForm v UNKNOWN KNOWN KNOWN) (byForm v (getD v 1 0) (getD v 0 0) (getD v 0 0)) (byForm v (getD v 2 0) (getD v 1 0) 0) checksum
     (keptOf v)
 
 -- a packet's head by its type and code
 abbrev pub headAt : ℕ → ℕ → List ℕ → Head
-headAt k c p = headOf (checksumAt p) (typeOf k c (fieldsAt p))
+headAt k c p = headOfValue (checksumAt p) (typeOf k c (fieldsAt p))
 
 unfoldable pub headFor : Paper → Head
 headFor p =
-    cond (eqb (p .number) 0) (headOf (getD (p .values) 0 0) (drop 1 (p .values)))
+    cond (eqb (p .number) 0) (headOfValue (getD (p .values) 0 0) (drop 1 (p .values)))
     (record {
       answer = REFUSED;
       refusal = p .number;

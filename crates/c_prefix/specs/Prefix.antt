@@ -7,7 +7,7 @@ use lib.Dec.{eqb}
 use Rattle.refusal.specs.Paper.{slots}
 use Rattle.wire.specs.Wire.{flagOf}
 use Rattle.prefix_information.specs.declared.PrefixInformation.{PrefixInformation}
-use Rattle.prefix_information.specs.Prefix.{Told}
+use Rattle.prefix_information.specs.Prefix.{PrefixTold}
 use Rattle.c_answer.specs.Answer.{REFUSED, PREFIX}
 use Rattle.c_prefix.specs.declared.Prefix.{Prefix}
 
@@ -25,6 +25,6 @@ prefix answer refusal value i =
       prefix = i .prefix;
     }
 
-unfoldable pub prefixFor : Told → Prefix
+unfoldable pub prefixFor : PrefixTold → Prefix
 prefixFor t =
     prefix (cond (eqb (t .paper .number) 0) PREFIX REFUSED) (t .paper .number) (slots (t .paper .values)) (t .information)

@@ -15,8 +15,8 @@ abbrev pub bare : ℕ → ℕ → List ℕ → ℕ → Stepped
 bare answer refusal value next =
     record { answer = answer; refusal = refusal; value = value; kind = 0; «option_type» = 0; at = 0; length = 0; next = next }
 
-abbrev pub option : List ℕ → ℕ → Stepped
-option v next =
+abbrev pub withOption : List ℕ → ℕ → Stepped
+withOption v next =
     record {
       answer = OPTION;
       refusal = 0;
@@ -33,5 +33,5 @@ unfoldable pub steppedFor : ℕ → Told → Stepped
 steppedFor at t =
     cond (eqb (t .paper .number) 0)
     (cond (eqb (getD (t .paper .values) 0 0) 0) (bare END 0 none at)
-    (cond (eqb (getD (t .paper .values) 0 0) 1) (bare STOPPED 0 none at) (option (t .paper .values) (t .place))))
+    (cond (eqb (getD (t .paper .values) 0 0) 1) (bare STOPPED 0 none at) (withOption (t .paper .values) (t .place))))
     (bare REFUSED (t .paper .number) (slots (t .paper .values)) (t .place))

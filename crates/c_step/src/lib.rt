@@ -1,7 +1,7 @@
 // A step of the option walk. The caller passes to each step the `next` of the step before it.
 ghost use mathlib.Core.Path.{_≡_};
 ghost use Rattle.ndp_options.specs.Walk.{stepOf};
-ghost use Rattle.ndp_options.specs.Told.{kindNumber};
+ghost use Rattle.ndp_options.specs.Told.{optionKindNumber};
 ghost use Rattle.c_step.specs.Stepped.{bare, steppedFor};
 use ndp_options::Cursor;
 use ndp_options::NdpOptionKind;
@@ -21,7 +21,7 @@ pub struct Stepped {
 }
 
 fn kind_number(kind: NdpOptionKind) -> u32
-    ensures { λ r. ⌜ r ≡ kindNumber kind ⌝ }
+    ensures { λ r. ⌜ r ≡ optionKindNumber kind ⌝ }
 {
     match kind {
         NdpOptionKind::Unknown => 0,

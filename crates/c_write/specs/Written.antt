@@ -13,8 +13,8 @@ use Rattle.icmpv6_type.specs.From as head
 use Rattle.c_answer.specs.Answer.{REFUSED, WRITTEN, none}
 use Rattle.c_write.specs.declared.Written.{Written}
 
-abbrev pub valueOf : ℕ → ℕ → ℕ → Icmpv6Type
-valueOf type code word = head.valueOf type code (bytes32 word)
+abbrev pub valueOfWord : ℕ → ℕ → ℕ → Icmpv6Type
+valueOfWord type code word = head.valueOf type code (bytes32 word)
 
 abbrev pub written : ℕ → ℕ → List ℕ → ℕ → Written
 written answer refusal value length = record { answer = answer; refusal = refusal; value = value; length = length }

@@ -1,7 +1,7 @@
 // A packet written into a lent output. The type value comes as numbers.
 ghost use mathlib.Core.Path.{_≡_};
 ghost use Rattle.writer.specs.Write.{writeOf, outputOf};
-ghost use Rattle.c_write.specs.Written.{valueOf, writtenFor};
+ghost use Rattle.c_write.specs.Written.{valueOfWord, writtenFor};
 use icmpv6_type::Icmpv6Type;
 use writer::write_packet;
 
@@ -23,8 +23,8 @@ pub extern "C" fn brothladder_write(
     destination: &[u8; 16],
     out: &mut [u8],
 ) -> Written
-    ensures answers { λ r. ⌜ r ≡ writtenFor (writeOf (valueOf «type_u8» «code_u8» bytes5to8) (now (payload .entry)) (now (out .entry))) ⌝ }
-    ensures lent { λ r. ⌜ now (out .exit) ≡ outputOf (valueOf «type_u8» «code_u8» bytes5to8) (now (source .entry)) (now (destination .entry)) (now (payload .entry)) (now (out .entry)) ⌝ }
+    ensures answers { λ r. ⌜ r ≡ writtenFor (writeOf (valueOfWord «type_u8» «code_u8» bytes5to8) (now (payload .entry)) (now (out .entry))) ⌝ }
+    ensures lent { λ r. ⌜ now (out .exit) ≡ outputOf (valueOfWord «type_u8» «code_u8» bytes5to8) (now (source .entry)) (now (destination .entry)) (now (payload .entry)) (now (out .entry)) ⌝ }
 {
     let t = Icmpv6Type::from_parts(type_u8, code_u8, wire::u32_to_be(bytes5to8));
     match write_packet(t, source, destination, payload, out) {

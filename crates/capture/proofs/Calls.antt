@@ -18,7 +18,7 @@ use Rattle.capture.specs.declared.Record.{Record}
 use Rattle.capture.specs.declared.Next.{Next}
 use Rattle.capture.specs.declared.Next.the-variants.{Found, End, Refused}
 use Rattle.capture.specs.Paper.{nextPaper}
-use Rattle.capture.specs.Record.{addressAt, recordOf, isRecord, placed, placeIn, nextOf}
+use Rattle.capture.specs.Record.{addressAt, recordOf, isRecord, recordPlaced, placeIn, nextOf}
 use Rattle.capture.specs.Capture.{FoundAt}
 use Rattle.capture.proofs.Seen.{Seen, ended, cut, unmarked, long, found, seen}
 
@@ -27,11 +27,11 @@ pub address-there : (s : List ℕ) (at : ℕ) → at + 16 ≤ length s → addre
 address-there s at h = over-whole _ (take 16 (drop at s)) (length-take-le 16 (drop at s) (simp length-drop (omega arith)))
 
 -- an answer with no number says so of the bytes from the place on
-pub not-beyond : (s : List ℕ) (at base : ℕ) (p : Paper) → (p .number ≡ 14 → ⊥) → p ≡ nextOf s at base → (at ≤ length s) × (p ≡ placed at (recordOf (drop at s) (placeIn base at)))
+pub not-beyond : (s : List ℕ) (at base : ℕ) (p : Paper) → (p .number ≡ 14 → ⊥) → p ≡ nextOf s at base → (at ≤ length s) × (p ≡ recordPlaced at (recordOf (drop at s) (placeIn base at)))
 unfolding nextOf
 not-beyond s at base p other e = by _ (ltb (length s) at) refl e
   where
-    by : (v : List ℕ) (b : Bool) → ltb (length s) at ≡ b → p ≡ cond b (refuses 14 v) (placed at (recordOf (drop at s) (placeIn base at))) → (at ≤ length s) × (p ≡ placed at (recordOf (drop at s) (placeIn base at)))
+    by : (v : List ℕ) (b : Bool) → ltb (length s) at ≡ b → p ≡ cond b (refuses 14 v) (recordPlaced at (recordOf (drop at s) (placeIn base at))) → (at ≤ length s) × (p ≡ recordPlaced at (recordOf (drop at s) (placeIn base at)))
     by v true t q = absurd (other (ap (λ (x : Paper). x .number) q))
     by v false t q = (ltb-false (length s) at t, q)
 
@@ -41,7 +41,7 @@ module _ (s : List ℕ) (at base : ℕ) where
       let b = not-beyond s at base (nextPaper (Found r)) (λ z. omega arith) (sym (ap nextPaper arm) ∙ e) in
       by (b .0) (seen (drop at s) (placeIn base at)) refl (b .1)
     where
-      by : {p : Paper} → at ≤ length s → Seen (drop at s) (placeIn base at) p → p ≡ recordOf (drop at s) (placeIn base at) → nextPaper (Found r) ≡ placed at p → FoundAt s at (placeIn base at) r
+      by : {p : Paper} → at ≤ length s → Seen (drop at s) (placeIn base at) p → p ≡ recordOf (drop at s) (placeIn base at) → nextPaper (Found r) ≡ recordPlaced at p → FoundAt s at (placeIn base at) r
       by h (ended k) o q = let z = ap (λ (x : Paper). length (x .values)) q in absurd (omega arith)
       by h (cut k l) o q = let z = ap (λ (x : Paper). x .number) q in absurd (omega arith)
       by h (unmarked k l) o q = let z = ap (λ (x : Paper). x .number) q in absurd (omega arith)
@@ -64,7 +64,7 @@ module _ (s : List ℕ) (at base : ℕ) where
       let b = not-beyond s at base (gives []) (λ z. omega arith) (sym (ap nextPaper arm) ∙ e) in
       by (b .0) (seen (drop at s) (placeIn base at)) (b .1)
     where
-      by : {p : Paper} → at ≤ length s → Seen (drop at s) (placeIn base at) p → gives [] ≡ placed at p → at ≡ length s
+      by : {p : Paper} → at ≤ length s → Seen (drop at s) (placeIn base at) p → gives [] ≡ recordPlaced at p → at ≡ length s
       by h (ended k) q = omega (arith, length-drop at s)
       by h (cut k l) q = let z = ap (λ (x : Paper). x .number) q in absurd (omega arith)
       by h (unmarked k l) q = let z = ap (λ (x : Paper). x .number) q in absurd (omega arith)
@@ -77,7 +77,7 @@ module _ (s : List ℕ) (at base : ℕ) where
   refused-at {why = why} h e arm =
       by (seen (drop at s) (placeIn base at)) (sym (ap nextPaper arm) ∙ e ∙ simp (le-ltb (length s) at h))
     where
-      by : {p : Paper} → Seen (drop at s) (placeIn base at) p → refusal why ≡ placed at p → refusal why ≡ p
+      by : {p : Paper} → Seen (drop at s) (placeIn base at) p → refusal why ≡ recordPlaced at p → refusal why ≡ p
       by (ended k) q = q
       by (cut k l) q = q
       by (unmarked k l) q = q

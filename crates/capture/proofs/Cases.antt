@@ -8,7 +8,7 @@ use Rattle.paper.specs.Each.{Each}
 use Rattle.wire.specs.Prefix.{begins}
 use Rattle.output.specs.Output.{over}
 use Rattle.capture.specs.Record.{recordOf, nextOf, recorded}
-use Rattle.capture.specs.Capture.{Item, Touch}
+use Rattle.capture.specs.Capture.{RecordAt, RecordsTouch}
 use Rattle.capture.specs.Cases.{table, Claim}
 
 pub hold : Each Claim table
@@ -16,11 +16,11 @@ unfolding nextOf recordOf begins recorded over
 hold = (refl, (refl, (refl, (refl, (refl, (refl, (refl, (refl, (refl, (refl, (refl, (refl, (refl, (refl, (refl, tt)))))))))))))))
 
 -- two records of one byte each, the second at a place
-abbrev two : ℕ → List Item
+abbrev two : ℕ → List RecordAt
 two place = record { place = 0; bytes = 1 ∷ [] } ∷ record { place = place; bytes = 2 ∷ [] } ∷ []
 
-pub side-by-side : Touch 0 (two 1) 2
+pub side-by-side : RecordsTouch 0 (two 1) 2
 side-by-side = (refl, (refl, refl))
 
-pub apart : Touch 0 (two 5) 2 → ⊥
+pub apart : RecordsTouch 0 (two 5) 2 → ⊥
 apart t = let z = t .1 .0 in omega arith

@@ -8,11 +8,11 @@ use native.Mathlib.Omega.{arith}
 use lib.ListN.{length, take, drop, length-drop, take-append-drop}
 use lib.Seq.{length-take-le, take-append-le, drop-append-le}
 use Rattle.capture.specs.Record.{recordOf, isRecord}
-use Rattle.capture.specs.Capture.{Item, recordLen, follow, stopsAt, captureBy, captureFrom, Touch, allBytes}
+use Rattle.capture.specs.Capture.{RecordAt, recordLen, recordsThen, stopsAt, captureBy, captureFrom, RecordsTouch, allBytes}
 use Rattle.capture.proofs.Judged.{none-left}
 use Rattle.capture.proofs.Laws.{is-found, same-len, stable}
 
-abbrev pub first : ℕ → List ℕ → List Item
+abbrev pub first : ℕ → List ℕ → List RecordAt
 first place s = record { place = place; bytes = take (recordLen s) s } ∷ []
 
 -- what is left after a record is less
@@ -41,7 +41,7 @@ enough (suc n) (suc m) place s h i =
 
 -- a record, and the capture after it
 pub goes-on : (place : ℕ) (s : List ℕ) → isRecord (recordOf s place) ≡ true
-    → captureFrom place s ≡ follow (first place s) (captureFrom (place + recordLen s) (drop (recordLen s) s))
+    → captureFrom place s ≡ recordsThen (first place s) (captureFrom (place + recordLen s) (drop (recordLen s) s))
 unfolding captureFrom captureBy
 goes-on place s e =
     enough (length s) (suc (length s)) place s (omega arith) (omega arith)
@@ -65,7 +65,7 @@ along P end more (suc n) place s h =
     by false e k = end place s e
 
 abbrev Touches : ℕ → List ℕ → Type 0
-Touches place s = let c = captureFrom place s in Touch place (c .records) (c .place)
+Touches place s = let c = captureFrom place s in RecordsTouch place (c .records) (c .place)
 
 -- records touch, the first at the place where the reading begins, up to the place where it ends
 pub touch : (place : ℕ) (s : List ℕ) → Touches place s
@@ -91,7 +91,7 @@ all-there place s = along AllThere end more (length s) place s (omega arith)
     more p l e k = rw (goes-on p l e, append-assoc, k) (take-append-drop (recordLen l) l)
 
 abbrev Joins : List ℕ → ℕ → List ℕ → Type 0
-Joins t place s = let c = captureFrom place s in captureFrom place (s ++ t) ≡ follow (c .records) (captureFrom (c .place) (c .rest ++ t))
+Joins t place s = let c = captureFrom place s in captureFrom place (s ++ t) ≡ recordsThen (c .records) (captureFrom (c .place) (c .rest ++ t))
 
 -- What a piece hands out, the joined capture hands out first; what follows is the capture of the piece's unread bytes joined with the rest.
 pub joined : (place : ℕ) (s t : List ℕ) → Joins t place s

@@ -11,13 +11,13 @@ use Rattle.capture.specs.declared.Record.{Record}
 use Rattle.capture.specs.Record.{hopLimit, packetLen, recordOf, isRecord}
 
 -- a record: the place of its first byte, and its bytes
-pub record Item : Type 0 where
+pub record RecordAt : Type 0 where
   pub place : ℕ
   pub bytes : List ℕ
 
 -- the records; then the place that is no record, what is answered there, and the bytes from there on
 pub record Capture : Type 0 where
-  pub records : List Item
+  pub records : List RecordAt
   pub place : ℕ
   pub answer : Paper
   pub rest : List ℕ
@@ -30,8 +30,8 @@ abbrev pub recordLen : List ℕ → ℕ
 recordLen s = 37 + packetLen s
 
 -- records, and then a capture
-abbrev pub follow : List Item → Capture → Capture
-follow is c = record { records = is ++ c .records; place = c .place; answer = c .answer; rest = c .rest }
+abbrev pub recordsThen : List RecordAt → Capture → Capture
+recordsThen is c = record { records = is ++ c .records; place = c .place; answer = c .answer; rest = c .rest }
 
 abbrev pub stopsAt : ℕ → List ℕ → Capture
 stopsAt place s = record { records = []; place = place; answer = recordOf s place; rest = s }
@@ -40,7 +40,7 @@ stopsAt place s = record { records = []; place = place; answer = recordOf s plac
 unfoldable pub captureBy : ℕ → ℕ → List ℕ → Capture
 captureBy zero place s = stopsAt place s
 captureBy (suc n) place s =
-    let more = follow (record { place = place; bytes = take (recordLen s) s } ∷ []) (captureBy n (place + recordLen s) (drop (recordLen s) s)) in
+    let more = recordsThen (record { place = place; bytes = take (recordLen s) s } ∷ []) (captureBy n (place + recordLen s) (drop (recordLen s) s)) in
     cond (isRecord (recordOf s place)) more (stopsAt place s)
 
 -- all records, the first at a place: no more than there are bytes
@@ -48,11 +48,11 @@ unfoldable pub captureFrom : ℕ → List ℕ → Capture
 captureFrom place s = captureBy (length s) place s
 
 -- each record begins where the one before it ended
-abbrev pub Touch : ℕ → List Item → ℕ → Type 0
-Touch from [] to = from ≡ to
-Touch from (i ∷ is) to = (i .place ≡ from) × Touch (from + length (i .bytes)) is to
+abbrev pub RecordsTouch : ℕ → List RecordAt → ℕ → Type 0
+RecordsTouch from [] to = from ≡ to
+RecordsTouch from (i ∷ is) to = (i .place ≡ from) × RecordsTouch (from + length (i .bytes)) is to
 
-abbrev pub allBytes : List Item → List ℕ
+abbrev pub allBytes : List RecordAt → List ℕ
 allBytes [] = []
 allBytes (i ∷ is) = i .bytes ++ allBytes is
 

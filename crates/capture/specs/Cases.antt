@@ -20,28 +20,28 @@ Claim (holds bytes at address) = addressAt bytes at ≡ address
 Claim (takes packet answer) = recorded packet (gives []) ≡ answer
 
 -- the 37 bytes before a packet, with two bytes of length
-abbrev pub head : ℕ → ℕ → List ℕ
-head high low = 0x49 ∷ 0x36 ∷ 255 ∷ (replicate 32 0 ++ high ∷ low ∷ [])
+abbrev pub recordHead : ℕ → ℕ → List ℕ
+recordHead high low = 0x49 ∷ 0x36 ∷ 255 ∷ (replicate 32 0 ++ high ∷ low ∷ [])
 
 abbrev pub table : List Case
 table =
     -- 12: another mark, whatever is behind it; after a record of 37 bytes; 1,000 bytes on
     tells (0x49 ∷ 0x37 ∷ []) 0 0 (refuses 12 (0 ∷ []))
-    ∷ tells (head 0 0 ++ (0x49 ∷ 0x37 ∷ [])) 37 0 (refuses 12 (37 ∷ []))
-    ∷ tells (head 0 0 ++ (0x49 ∷ 0x37 ∷ [])) 37 1000 (refuses 12 (1037 ∷ []))
+    ∷ tells (recordHead 0 0 ++ (0x49 ∷ 0x37 ∷ [])) 37 0 (refuses 12 (37 ∷ []))
+    ∷ tells (recordHead 0 0 ++ (0x49 ∷ 0x37 ∷ [])) 37 1000 (refuses 12 (1037 ∷ []))
     -- 14: under 2 bytes, under 37, a packet that is cut off, a place beyond the bytes
     ∷ tells (0x49 ∷ []) 0 1000 (refuses 14 (1000 ∷ []))
-    ∷ tells (take 36 (head 0 0)) 0 1000 (refuses 14 (1000 ∷ []))
-    ∷ tells (head 0 0 ++ head 8 0) 37 1000 (refuses 14 (1037 ∷ []))
+    ∷ tells (take 36 (recordHead 0 0)) 0 1000 (refuses 14 (1000 ∷ []))
+    ∷ tells (recordHead 0 0 ++ recordHead 8 0) 37 1000 (refuses 14 (1037 ∷ []))
     ∷ tells (0x49 ∷ 0x36 ∷ 255 ∷ []) 5 1000 (refuses 14 (1005 ∷ []))
     -- 13: 2,049 bytes and 65,535, read and written
-    ∷ tells (head 8 1) 0 1000 (refuses 13 (2049 ∷ []))
-    ∷ tells (head 255 255) 0 1000 (refuses 13 (65535 ∷ []))
+    ∷ tells (recordHead 8 1) 0 1000 (refuses 13 (2049 ∷ []))
+    ∷ tells (recordHead 255 255) 0 1000 (refuses 13 (65535 ∷ []))
     ∷ takes (replicate 2049 0) (refuses 13 (2049 ∷ []))
     -- none of them: a packet of one byte, with the places of its parts; 2,048 bytes; the end
-    ∷ tells (head 0 1 ++ 9 ∷ []) 0 1000 (gives (255 ∷ 3 ∷ 19 ∷ 37 ∷ 1 ∷ 38 ∷ []))
+    ∷ tells (recordHead 0 1 ++ 9 ∷ []) 0 1000 (gives (255 ∷ 3 ∷ 19 ∷ 37 ∷ 1 ∷ 38 ∷ []))
     ∷ takes (replicate 2048 0) (gives [])
-    ∷ tells (head 0 0) 37 1000 (gives [])
+    ∷ tells (recordHead 0 0) 37 1000 (gives [])
     -- 0 in place of the bytes of an address that are not there
     ∷ holds (7 ∷ 8 ∷ 9 ∷ []) 1 (8 ∷ 9 ∷ replicate 14 0)
     ∷ holds (7 ∷ 8 ∷ 9 ∷ []) 5 (replicate 16 0)

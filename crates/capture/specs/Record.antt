@@ -59,8 +59,8 @@ isRecord p = eqb (length (p .values)) 2
 abbrev pub places : ℕ → ℕ → ℕ → List ℕ
 places at hop len = hop ∷ (at + 3) ∷ (at + 19) ∷ (at + 37) ∷ len ∷ (at + 37 + len) ∷ []
 
-abbrev pub placed : ℕ → Paper → Paper
-placed at p = cond (isRecord p) (gives (places at (getD (p .values) 0 0) (getD (p .values) 1 0))) p
+abbrev pub recordPlaced : ℕ → Paper → Paper
+recordPlaced at p = cond (isRecord p) (gives (places at (getD (p .values) 0 0) (getD (p .values) 1 0))) p
 
 -- a place of some bytes, counted from the start of the capture, in 64 bits
 abbrev pub placeIn : ℕ → ℕ → ℕ
@@ -70,7 +70,7 @@ placeIn base at = (base + at) % 2 ^ 64
 unfoldable pub nextOf : List ℕ → ℕ → ℕ → Paper
 nextOf s at base =
     cond (ltb (length s) at) (refuses 14 (placeIn base at ∷ []))
-    (placed at (recordOf (drop at s) (placeIn base at)))
+    (recordPlaced at (recordOf (drop at s) (placeIn base at)))
 
 -- an answer that is given only where a record can hold the packet, else refusal 13
 unfoldable pub recorded : List ℕ → Paper → Paper

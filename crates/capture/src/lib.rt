@@ -3,7 +3,7 @@ ghost use mathlib.Core.Path.{_≡_};
 ghost use Prim.Native.Nat.{_+_, _<_};
 ghost use lib.ListN.{length, take, drop};
 ghost use Rattle.output.specs.Output.{writtenTold, leaves};
-ghost use Rattle.capture.specs.Record.{addressAt, recordBytes, recordOf, placed, nextOf, writeRecordOf};
+ghost use Rattle.capture.specs.Record.{addressAt, recordBytes, recordOf, recordPlaced, nextOf, writeRecordOf};
 ghost use Rattle.capture.specs.Paper.{nextPaper};
 use output::Written;
 use refusal::Refusal;
@@ -44,7 +44,7 @@ pub fn next_record(capture: &[u8], at: usize, base: u64) -> Next
 // The record that `left` begins with.
 fn first_record(left: &[u8], at: usize, place: u64) -> Next
     requires { ⌜ at + length (now left) < 18446744073709551616 ⌝ }
-    ensures { λ r. ⌜ nextPaper r ≡ placed at (recordOf (now (left .entry)) place) ⌝ }
+    ensures { λ r. ⌜ nextPaper r ≡ recordPlaced at (recordOf (now (left .entry)) place) ⌝ }
 {
     if left.len() == 0 {
         return Next::End;

@@ -16,7 +16,7 @@ use Rattle.ndp_walk.specs.Walk.{Ending, Clean, RefusedAt, Walk, clean, walkOn, 
 use Rattle.ndp_walk.specs.Step.{Told, stopped, stepBy}
 use Rattle.ndp_options.specs.Rule.{rule}
 use Rattle.ndp_option_read.specs.Rule.{exactlyOf}
-use Rattle.prefix_information.specs.Prefix.{prefixOf, nothing}
+use Rattle.prefix_information.specs.Prefix.{prefixOf, noInformation}
 use Rattle.prefix_information.specs.Prefix as prefix
 use Rattle.checksum.specs.Ones.{_⊕_}
 use Rattle.checksum.specs.Icmpv6.{sumOf, verdictOf, invalid}
@@ -29,7 +29,7 @@ wrong =
     decodes (zeros 7) (refuses 1 (8 ∷ 8 ∷ []))
     ∷ walks (1 ∷ 0 ∷ []) clean
     ∷ steps [] 0 stopped
-    ∷ reads (3 ∷ 3 ∷ zeros 22) (refuses 5 (3 ∷ 32 ∷ 32 ∷ [])) nothing
+    ∷ reads (3 ∷ 3 ∷ zeros 22) (refuses 5 (3 ∷ 32 ∷ 32 ∷ [])) noInformation
     ∷ rewrites (option 0xff) (option 0xff)
     ∷ validates router everyone (solicitation 0x7a 0x2c) invalid
     ∷ dispatches 135 (zeros 15) (refuses 4 (16 ∷ 16 ∷ []))
@@ -49,7 +49,7 @@ not-met = (
     (
       λ e. let z : _≡_ {A = ℕ} 0 1 = ap (λ (t : Told). value 0 (t .paper)) e in omega arith,
       (
-        λ e. let z : _≡_ {A = ℕ} 24 32 = ap (λ (t : prefix.Told). value 2 (t .paper)) e in omega arith,
+        λ e. let z : _≡_ {A = ℕ} 24 32 = ap (λ (t : prefix.PrefixTold). value 2 (t .paper)) e in omega arith,
         (
           λ e. let z : _≡_ {A = ℕ} 0xc0 0xff = ap (λ (l : List ℕ). getD l 3 0) e in omega arith,
           (

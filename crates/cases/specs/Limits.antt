@@ -13,8 +13,8 @@ use Rattle.checksum.specs.Icmpv6.{computedOf}
 use Rattle.writer.specs.Write.{writeOf}
 
 -- the number and values of a refusal; none of an answer that refuses nothing
-abbrev pub refused : Paper → List ℕ
-refused p = cond (eqb (p .number) 0) [] (p .number ∷ p .values)
+abbrev pub refusalIn : Paper → List ℕ
+refusalIn p = cond (eqb (p .number) 0) [] (p .number ∷ p .values)
 
 -- what refuses the checksum of a payload of so many bytes; what the writer answers of one of a type that is not listed, with room for it
 pub data Case : Type 0 where
@@ -22,7 +22,7 @@ pub data Case : Type 0 where
   writes : ℕ → Paper → Case
 
 abbrev pub Claim : Case → Type 0
-Claim (sums n answer) = (source destination head payload : List ℕ) → length payload ≡ n → refused (computedOf source destination head payload) ≡ answer
+Claim (sums n answer) = (source destination head payload : List ℕ) → length payload ≡ n → refusalIn (computedOf source destination head payload) ≡ answer
 Claim (writes n answer) = (payload out : List ℕ) → length payload ≡ n → 8 + n ≤ length out → writeOf (Unknown 200 0 0) payload out ≡ answer
 
 abbrev pub table : List Case

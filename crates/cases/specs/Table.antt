@@ -11,7 +11,7 @@ use Rattle.ndp_walk.specs.Walk.{Walk, clean, refused}
 use Rattle.ndp_walk.specs.Step.{Told, told, ended, stopped}
 use Rattle.ndp_options.specs.Walk.{walk, stepOf}
 use Rattle.prefix_information.specs.declared.PrefixInformation.{PrefixInformation}
-use Rattle.prefix_information.specs.Prefix.{prefixOf, informationAt, bytesOf, nothing}
+use Rattle.prefix_information.specs.Prefix.{prefixOf, informationAt, bytesOf, noInformation}
 use Rattle.prefix_information.specs.Prefix as prefix
 use Rattle.checksum.specs.Icmpv6.{verdictOf, valid, invalid}
 use Rattle.icmpv6_payload_slice.specs.Dispatch.{payloadOf}
@@ -30,7 +30,7 @@ abbrev pub Claim : Case → Type 0
 Claim (decodes packet answer) = decodeOf packet ≡ answer
 Claim (walks options answer) = walk options ≡ answer
 Claim (steps options at answer) = stepOf options at ≡ answer
-Claim (reads option answer information) = prefixOf option ≡ prefix.told answer information
+Claim (reads option answer information) = prefixOf option ≡ prefix.toldWith answer information
 Claim (rewrites option bytes) = bytesOf (informationAt option) ≡ bytes
 Claim (validates source destination packet answer) = verdictOf source destination packet ≡ answer
 Claim (dispatches kind payload answer) = payloadOf 0 kind payload ≡ answer
@@ -88,7 +88,7 @@ table =
     -- P7 01 02 and six 00: 7 (1, 16, 8)
     ∷ walks (1 ∷ 2 ∷ zeros 6) (refused 0 (refuses 7 (1 ∷ 16 ∷ 8 ∷ [])))
     -- P8 24 bytes from 03 03: 5 (3, 32, 24)
-    ∷ reads (3 ∷ 3 ∷ zeros 22) (refuses 5 (3 ∷ 32 ∷ 24 ∷ [])) nothing
+    ∷ reads (3 ∷ 3 ∷ zeros 22) (refuses 5 (3 ∷ 32 ∷ 24 ∷ [])) noInformation
     -- P9: 64, both flags, 86,400, 14,400
     ∷ reads (option 0xc0) (gives []) information
     -- P10 flags ff: same value, written c0

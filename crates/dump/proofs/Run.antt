@@ -9,7 +9,7 @@ use Rattle.dump.specs.declared.scan.Stage.{Stage}
 use Rattle.dump.specs.declared.scan.Stage.the-variants.{Going, Full, Hungry, Done, Failed}
 use Rattle.dump.specs.declared.State.{State}
 use Rattle.dump.specs.Stage.{isDone, isFailed, isTurning}
-use Rattle.dump.specs.Turn.{leftIn, piece, text, Turned}
+use Rattle.dump.specs.Turn.{leftIn, piece, sentText, Turned}
 use Rattle.dump.specs.Run.{Begun, Reached, Way, Ran}
 use Rattle.dump.specs.Run.Reached.{start, on}
 
@@ -41,14 +41,14 @@ done-or-failed buf s ran = by (s .stage) (ran .ends)
 
 -- ---- the ways
 pub begins : (buf out : List ℕ) (s : State) → Begun out s → isFailed (s .stage) ≡ false → Way buf s
-begins buf out s b f = record { read = []; written = text out s; way = start b f }
+begins buf out s b f = record { read = []; written = sentText out s; way = start b f }
 
 -- one turn more
 pub goes-on : (buf buf′ out : List ℕ) (s r : State) → isTurning (s .stage) ≡ true → (isFailed (s .stage) ≡ false → Way buf s) → Turned buf buf′ out s r
     → isFailed (r .stage) ≡ false → Way buf′ r
 goes-on buf buf′ out s r g way d f =
     let w = way (turning-unfailed (s .stage) g) in
-    record { read = w .read ++ piece buf′ s r; written = w .written ++ text out r; way = on (w .way) g d f }
+    record { read = w .read ++ piece buf′ s r; written = w .written ++ sentText out r; way = on (w .way) g d f }
 
 -- On the way: what was handed over is where the listing begins, whatever follows what was read.
 pub run-begins : (buf : List ℕ) (s : State) (read written : List ℕ) → Reached buf s read written → isTurning (s .stage) ≡ true
@@ -58,7 +58,7 @@ run-begins buf′ s read written (on {buf = buf} {out = out} {s = q} {read = p} 
     ap listingOf (append-assoc p (piece buf′ q s) t)
     ∙ run-begins buf q p w way k (piece buf′ q s ++ t)
     ∙ ap (λ (l : List ℕ). w ++ l) (d .more g t)
-    ∙ sym (append-assoc w (text out s) (leftIn buf′ s t))
+    ∙ sym (append-assoc w (sentText out s) (leftIn buf′ s t))
 
 -- At the end: all that was handed over is the listing of what was read, whatever else there is to read; after the end of the input there is nothing.
 pub run-ends : (buf : List ℕ) (s : State) (read written : List ℕ) → Reached buf s read written → isDone (s .stage) ≡ true

@@ -24,7 +24,7 @@ use Rattle.capture.proofs.Judged.{none-left}
 use Rattle.capture.proofs.Laws.{is-found, few-left, no-record, refused-settled}
 use Rattle.capture.proofs.Calls.{address-there}
 use Rattle.capture.specs.Capture.{FoundAt}
-use Rattle.lines.specs.Text.{recordsLine, stoppedLine}
+use Rattle.dump_lines.specs.Text.{recordsLine, stoppedLine}
 use Rattle.listing.specs.Packet.{recordText}
 use Rattle.listing.specs.Whole.{restText}
 use Rattle.listing.proofs.Whole.{on-stop, on-record-more, on-stop-more}

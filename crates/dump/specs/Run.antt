@@ -4,10 +4,10 @@ use Prim.Native.Nat.{ℕ}
 use mathlib.Core.Path.{_≡_}
 use mathlib.Core.Bool.{true, false}
 use mathlib.Core.List.{List, [], _++_}
-use Rattle.lines.specs.Text.{titleLine}
+use Rattle.dump_lines.specs.Text.{titleLine}
 use Rattle.dump.specs.declared.State.{State}
 use Rattle.dump.specs.Stage.{isDone, isFailed, isTurning}
-use Rattle.dump.specs.Turn.{piece, text, Held, Turned}
+use Rattle.dump.specs.Turn.{piece, sentText, Held, Turned}
 
 -- the start: nothing is read, and the first line is handed over
 pub record Begun (out : List ℕ) (s : State) : Type 0 where
@@ -17,13 +17,13 @@ pub record Begun (out : List ℕ) (s : State) : Type 0 where
   pub count : s .count ≡ 0
   pub held : Held s
   pub undone : isDone (s .stage) ≡ false
-  pub titled : isFailed (s .stage) ≡ false → text out s ≡ titleLine
+  pub titled : isFailed (s .stage) ≡ false → sentText out s ≡ titleLine
 
 -- what the buffer holds and the state, with all that was read and all that was handed over up to there
 pub data Reached : List ℕ → State → List ℕ → List ℕ → Type 0 where
-  start : {buf out : List ℕ} {s : State} → Begun out s → isFailed (s .stage) ≡ false → Reached buf s [] (text out s)
+  start : {buf out : List ℕ} {s : State} → Begun out s → isFailed (s .stage) ≡ false → Reached buf s [] (sentText out s)
   on : {buf buf′ out : List ℕ} {s r : State} {read written : List ℕ} → Reached buf s read written → isTurning (s .stage) ≡ true
-      → Turned buf buf′ out s r → isFailed (r .stage) ≡ false → Reached buf′ r (read ++ piece buf′ s r) (written ++ text out r)
+      → Turned buf buf′ out s r → isFailed (r .stage) ≡ false → Reached buf′ r (read ++ piece buf′ s r) (written ++ sentText out r)
 
 -- a way from the start to a state
 pub record Way (buf : List ℕ) (s : State) : Type 0 where

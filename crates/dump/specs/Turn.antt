@@ -18,8 +18,8 @@ abbrev pub piece : List ℕ → State → State → List ℕ
 piece buf′ s r = take (r .got .bytes) (drop (s .filled - s .at) buf′)
 
 -- the bytes that were handed to the write, from the start of the text buffer on
-abbrev pub text : List ℕ → State → List ℕ
-text out r = take (r .sent .bytes) out
+abbrev pub sentText : List ℕ → State → List ℕ
+sentText out r = take (r .sent .bytes) out
 
 -- a state is within the buffer; where bytes are wanted few are held, and the input has not ended
 pub record Held (s : State) : Type 0 where
@@ -49,7 +49,7 @@ pub record Refilled (buf buf′ : List ℕ) (s r : State) : Type 0 where
 -- is done, all that the listing has, if no more bytes follow an input that has ended
 pub record Turned (buf buf′ out : List ℕ) (s r : State) : Type 0 where
   pub held : Held r
-  pub more : isTurning (r .stage) ≡ true → (t : List ℕ) → leftIn buf s (piece buf′ s r ++ t) ≡ text out r ++ leftIn buf′ r t
-  pub last : isDone (r .stage) ≡ true → (t : List ℕ) → (r .ended ≡ true → t ≡ []) → leftIn buf s (piece buf′ s r ++ t) ≡ text out r
+  pub more : isTurning (r .stage) ≡ true → (t : List ℕ) → leftIn buf s (piece buf′ s r ++ t) ≡ sentText out r ++ leftIn buf′ r t
+  pub last : isDone (r .stage) ≡ true → (t : List ℕ) → (r .ended ≡ true → t ≡ []) → leftIn buf s (piece buf′ s r ++ t) ≡ sentText out r
   pub kept : weight s ≤ weight r + 1
   pub risen : isTurning (r .stage) ≡ true → weight s < weight r

@@ -7,15 +7,15 @@ ghost use mathlib.Core.Path.{_≡_};
 ghost use mathlib.Core.Bool.{true, false};
 ghost use Prim.Native.Nat.{_+_, _-_, _≤_};
 ghost use lib.ListN.{length, take, drop};
-ghost use Rattle.lines.specs.Text.{titleLine};
+ghost use Rattle.dump_lines.specs.Text.{titleLine};
 ghost use Rattle.dump.specs.Stage.{isHungry, isTurning};
 ghost use Rattle.dump.specs.Ends.{Taken·in, Handed};
 ghost use Rattle.dump.specs.Turn.{Held, Refilled, Turned};
 ghost use Rattle.dump.specs.Run.{Begun, Ran};
+use dump_lines::Line;
 use ends::Given;
 use ends::Moved;
 use ends::Taken;
-use lines::Line;
 use output::Written;
 use scan::Stage;
 
@@ -178,7 +178,7 @@ fn title(out: &mut [u8]) -> Given
     requires { ⌜ 128 ≤ length (now out) ⌝ }
     ensures { λ r. ⌜ Handed (now (out .exit)) titleLine r ⌝ }
 {
-    match lines::put_line(out, 0, Line::Title) {
+    match dump_lines::put_line(out, 0, Line::Title) {
         Written::To(n) => flush(out, n),
         // Never: there is room.
         Written::Refused(_) => Given::Failed,

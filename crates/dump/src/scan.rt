@@ -4,12 +4,12 @@ ghost use mathlib.Core.Bool.{true, false};
 ghost use Prim.Native.Nat.{_+_, _<_, _≤_};
 ghost use lib.ListN.{length};
 ghost use Rattle.capture.specs.Capture.{FoundAt};
-ghost use Rattle.lines.specs.Line.{text};
+ghost use Rattle.dump_lines.specs.Line.{text};
 ghost use Rattle.dump.specs.Stage.{isGoing};
 ghost use Rattle.dump.specs.Scan.{Record·put, Line·put, Stepped, Scanned};
 use capture::Next;
 use capture::Record;
-use lines::Line;
+use dump_lines::Line;
 use output::Written;
 
 // How the listing stands: it goes on with the bytes that are held, or its text is to be handed over first, or more bytes are wanted; the last line is
@@ -93,7 +93,7 @@ fn list_last(out: &mut [u8], s: Progress, line: Line) -> Progress
     requires { ⌜ s .put + 33024 ≤ length (now out) ⌝ }
     ensures { λ r. ⌜ Line·put (text line) (now (out .entry)) (now (out .exit)) s r ⌝ }
 {
-    match lines::put_line(out, s.put, line) {
+    match dump_lines::put_line(out, s.put, line) {
         Written::To(next) => Progress {
             at: s.at,
             count: s.count,

@@ -16,7 +16,7 @@ use Rattle.icmpv6.specs.declared.icmpv6_header.HeaderRead.{HeaderRead}
 use Rattle.icmpv6.specs.declared.icmpv6_header.HeaderRead.the-variants as read
 use Rattle.icmpv6.specs.declared.icmpv6_slice.Parts.{Parts}
 use Rattle.icmpv6.specs.declared.icmpv6_slice.Parts.the-variants as parts
-use Rattle.icmpv6.specs.Head.{headerTold, readTold, partsTold}
+use Rattle.icmpv6.specs.Head.{headerTold, headerReadTold, partsTold}
 
 abbrev pub headerFrom : List ℕ → Icmpv6Header
 headerFrom l = record { «icmp_type» = typeFrom (drop 1 l); checksum = getD l 0 0 }
@@ -30,12 +30,12 @@ header-lossless = lossless headerTold headerFrom header-back
 abbrev readFrom : Paper → HeaderRead
 readFrom p = cond (eqb (p .number) 0) (read.Header (headerFrom (p .values))) (read.Refused (refusalOf p))
 
-read-back : (r : HeaderRead) → readFrom (readTold r) ≡ r
+read-back : (r : HeaderRead) → readFrom (headerReadTold r) ≡ r
 read-back (read.Header h) = ap read.Header (header-back h)
 read-back (read.Refused r) = simp (refusal-numbered r, refusal-back r)
 
-pub read-lossless : (x y : HeaderRead) → readTold x ≡ readTold y → x ≡ y
-read-lossless = lossless readTold readFrom read-back
+pub read-lossless : (x y : HeaderRead) → headerReadTold x ≡ headerReadTold y → x ≡ y
+read-lossless = lossless headerReadTold readFrom read-back
 
 abbrev partsFrom : Paper → Parts
 partsFrom p =

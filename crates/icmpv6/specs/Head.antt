@@ -31,8 +31,8 @@ abbrev pub clearedHead : List ℕ → List ℕ
 clearedHead p = getD p 0 0 ∷ getD p 1 0 ∷ getD p 2 0 ∷ getD p 3 0 ∷ cleared (getD p 0 0) (getD p 1 0) (fieldsAt p)
 
 -- type, code, checksum field, bytes 4 to 7
-unfoldable pub partsOf : List ℕ → Paper
-partsOf p =
+unfoldable pub headParts : List ℕ → Paper
+headParts p =
     sized (length p)
     (gives (getD p 0 0 ∷ getD p 1 0 ∷ checksumAt p ∷ word32At p 4 ∷ []))
 
@@ -44,9 +44,9 @@ encodeOf h =
 abbrev pub headerTold : Icmpv6Header → List ℕ
 headerTold h = h .checksum ∷ typeTold (h .«icmp_type»)
 
-abbrev pub readTold : HeaderRead → Paper
-readTold (read.Header h) = gives (headerTold h)
-readTold (read.Refused r) = refusal r
+abbrev pub headerReadTold : HeaderRead → Paper
+headerReadTold (read.Header h) = gives (headerTold h)
+headerReadTold (read.Refused r) = refusal r
 
 abbrev pub partsTold : Parts → Paper
 partsTold (parts.Head h) = gives (h .«type_u8» ∷ h .«code_u8» ∷ h .checksum ∷ h .bytes5to8 ∷ [])

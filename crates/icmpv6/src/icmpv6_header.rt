@@ -3,7 +3,7 @@ ghost use mathlib.Core.Path.{_≡_};
 ghost use mathlib.Core.List.{_∷_};
 ghost use lib.ListN.{length};
 ghost use Rattle.icmpv6_type.specs.Value.{typeTold};
-ghost use Rattle.icmpv6.specs.Head.{headerTold, readTold, decodeOf, encodeOf};
+ghost use Rattle.icmpv6.specs.Head.{headerTold, headerReadTold, decodeOf, encodeOf};
 use icmpv6_type::Icmpv6Type;
 use packet_length::PacketLength;
 use refusal::Refusal;
@@ -36,7 +36,7 @@ impl Icmpv6Header {
 
     // The header at the start of a packet.
     pub fn from_slice(packet: &[u8]) -> HeaderRead
-        ensures { λ r. ⌜ readTold r ≡ decodeOf (now (packet .entry)) ⌝ }
+        ensures { λ r. ⌜ headerReadTold r ≡ decodeOf (now (packet .entry)) ⌝ }
     {
         match packet_length::check_len(packet.len()) {
             PacketLength::Refused(why) => HeaderRead::Refused(why),

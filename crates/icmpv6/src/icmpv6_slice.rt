@@ -1,7 +1,7 @@
 // The parts of a packet as they stand, not decoded.
 ghost use mathlib.Core.Path.{_≡_};
 ghost use lib.ListN.{drop};
-ghost use Rattle.icmpv6.specs.Head.{partsTold, partsOf};
+ghost use Rattle.icmpv6.specs.Head.{partsTold, headParts};
 use packet_length::PacketLength;
 use refusal::Refusal;
 
@@ -19,7 +19,7 @@ pub enum Parts {
 }
 
 pub fn head_parts(packet: &[u8]) -> Parts
-    ensures { λ r. ⌜ partsTold r ≡ partsOf (now (packet .entry)) ⌝ }
+    ensures { λ r. ⌜ partsTold r ≡ headParts (now (packet .entry)) ⌝ }
 {
     match packet_length::check_len(packet.len()) {
         PacketLength::Refused(why) => Parts::Refused(why),

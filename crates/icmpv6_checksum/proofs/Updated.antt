@@ -11,9 +11,9 @@ use Rattle.icmpv6.specs.Head.{headerTold}
 use Rattle.icmpv6.proofs.Paper.{header-lossless}
 use Rattle.checksum.specs.Told.{computed}
 use Rattle.checksum.specs.declared.Computed.the-variants.{Checksum, Refused}
-use Rattle.icmpv6_checksum.specs.Header.{calcOf, leaves}
+use Rattle.icmpv6_checksum.specs.Header.{calcOf, headerAfter}
 
-module _ (source destination payload : List ℕ) (old h : Icmpv6Header) (lent : headerTold h ≡ leaves (calcOf source destination (old .«icmp_type») payload) (headerTold old)) where
+module _ (source destination payload : List ℕ) (old h : Icmpv6Header) (lent : headerTold h ≡ headerAfter (calcOf source destination (old .«icmp_type») payload) (headerTold old)) where
   pub set-as-answered : (n : ℕ) → computed (Checksum n) ≡ calcOf source destination (old .«icmp_type») payload → h ≡ record { «icmp_type» = old .«icmp_type»; checksum = n }
   set-as-answered n e = header-lossless h (record { «icmp_type» = old .«icmp_type»; checksum = n }) (lent ∙ rw (← e))
 

@@ -17,7 +17,7 @@ use Rattle.checksum.specs.Running.{Bytes}
 use Rattle.checksum.specs.Icmpv6.{checksumOf, payloadLimit, computedOf, valid, verdictOf}
 use Rattle.checksum.proofs.Validity as sums
 use Rattle.icmpv6_checksum.specs.declared.HeaderMade.the-variants.{Header}
-use Rattle.icmpv6_checksum.specs.Header.{headOf, calcOf, withOf, made, leaves}
+use Rattle.icmpv6_checksum.specs.Header.{headOf, calcOf, withOf, made, headerAfter}
 use Rattle.icmpv6_checksum.proofs.Bytes.{head-bytes, eight}
 
 module _ (source destination : List ℕ) (t : Icmpv6Type) (payload : List ℕ) where
@@ -50,6 +50,6 @@ module _ {source destination payload : List ℕ} (hs : Bytes source) (hd : Bytes
   made-validates t fits h e = validates t fits h (ap (λ (p : Paper). p .values) (e ∙ with-gives source destination t payload room))
 
   -- `update_checksum`: a lent header validates afterwards, whatever its field held
-  pub updated-validates : (old h : Icmpv6Header) → Fits (old .«icmp_type») → headerTold h ≡ leaves (calcOf source destination (old .«icmp_type») payload) (headerTold old)
+  pub updated-validates : (old h : Icmpv6Header) → Fits (old .«icmp_type») → headerTold h ≡ headerAfter (calcOf source destination (old .«icmp_type») payload) (headerTold old)
       → verdictOf source destination (encodeOf h ++ payload) ≡ valid
   updated-validates old h fits e = validates (old .«icmp_type») fits h (rw (calc-gives source destination (old .«icmp_type») payload room) at e)

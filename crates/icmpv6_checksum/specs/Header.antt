@@ -27,8 +27,8 @@ abbrev pub fieldAfter : Paper → ℕ → ℕ
 fieldAfter p field = cond (eqb (p .number) 0) (getD (p .values) 0 0) field
 
 -- the numbers of a lent header afterwards: the checksum stands first, the value's numbers stay
-abbrev pub leaves : Paper → List ℕ → List ℕ
-leaves p header = fieldAfter p (getD header 0 0) ∷ drop 1 header
+abbrev pub headerAfter : Paper → List ℕ → List ℕ
+headerAfter p header = fieldAfter p (getD header 0 0) ∷ drop 1 header
 
 -- refusal 3, or the header of a value with its checksum
 abbrev pub withOf : List ℕ → List ℕ → Icmpv6Type → List ℕ → Paper

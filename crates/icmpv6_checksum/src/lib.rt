@@ -2,7 +2,7 @@
 ghost use mathlib.Core.Path.{_≡_};
 ghost use Rattle.icmpv6.specs.Head.{headerTold};
 ghost use Rattle.checksum.specs.Told.{computed};
-ghost use Rattle.icmpv6_checksum.specs.Header.{calcOf, withOf, made, leaves};
+ghost use Rattle.icmpv6_checksum.specs.Header.{calcOf, withOf, made, headerAfter};
 use checksum::Computed;
 use icmpv6::icmpv6_header::Icmpv6Header;
 use icmpv6_type::Icmpv6Type;
@@ -71,7 +71,7 @@ fn computed_for(
 
 // The header with the computed checksum, or unchanged if the answer refuses.
 fn with_answer(h: Icmpv6Header, answer: Computed) -> Icmpv6Header
-    ensures { λ r. ⌜ headerTold r ≡ leaves (computed answer) (headerTold h) ⌝ }
+    ensures { λ r. ⌜ headerTold r ≡ headerAfter (computed answer) (headerTold h) ⌝ }
 {
     match answer {
         Computed::Checksum(sum) => {
@@ -93,7 +93,7 @@ pub fn update_checksum(
     destination: &[u8; 16],
 ) -> Computed
     ensures { λ r. ⌜ (computed r ≡ calcOf (now (source .entry)) (now (destination .entry)) (now (h .entry) .«icmp_type») (now (payload .entry)))
-        × (headerTold (now (h .exit)) ≡ leaves (calcOf (now (source .entry)) (now (destination .entry)) (now (h .entry) .«icmp_type») (now (payload .entry))) (headerTold (now (h .entry)))) ⌝ }
+        × (headerTold (now (h .exit)) ≡ headerAfter (calcOf (now (source .entry)) (now (destination .entry)) (now (h .entry) .«icmp_type») (now (payload .entry))) (headerTold (now (h .entry)))) ⌝ }
 {
     let old = *h;
     let answer = computed_for(old, payload, source, destination);

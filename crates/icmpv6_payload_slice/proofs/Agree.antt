@@ -20,7 +20,7 @@ use Rattle.icmpv6_type.specs.declared.Icmpv6Type.the-variants.{Unknown}
 use Rattle.icmpv6_type.specs.Value.{typeTold, typeOf, kindNumber, fieldsOf, wordOf}
 use Rattle.icmpv6.specs.declared.icmpv6_header.Icmpv6Header.{Icmpv6Header}
 use Rattle.icmpv6.specs.Head.{decodeOf, encodeOf, headerTold, fieldsAt}
-use Rattle.icmpv6_payload_slice.specs.Dispatch.{kindOf, optionsAt, optionsIn, payloadOf, byValue, byBytes}
+use Rattle.icmpv6_payload_slice.specs.Dispatch.{payloadKind, optionsAt, optionsIn, payloadOf, byValue, byBytes}
 use Rattle.icmpv6_payload_slice.proofs.Laws.{whole, known-pair}
 use Rattle.icmpv6_payload_slice.proofs.Opened.{known-0}
 
@@ -57,8 +57,8 @@ moved k p h =
     rw (present, all, first) (by (ltb (length p - 8) (fixedLen k)) (isNdp k))
   where
     by : (a b : Bool) →
-        cond a (refuses 4 (fixedLen k ∷ (length p - 8) ∷ [])) (gives (8 ∷ cond b (8 + fixedLen k) (length p) ∷ kindOf k (drop 8 p)))
-        ≡ behindHead (cond a (refuses 4 (fixedLen k ∷ (length p - 8) ∷ [])) (gives (0 ∷ cond b (fixedLen k) (length p - 8) ∷ kindOf k (drop 8 p))))
+        cond a (refuses 4 (fixedLen k ∷ (length p - 8) ∷ [])) (gives (8 ∷ cond b (8 + fixedLen k) (length p) ∷ payloadKind k (drop 8 p)))
+        ≡ behindHead (cond a (refuses 4 (fixedLen k ∷ (length p - 8) ∷ [])) (gives (0 ∷ cond b (fixedLen k) (length p - 8) ∷ payloadKind k (drop 8 p))))
     by true b = refl
     by false true = refl
     by false false = let e : 8 + (length p - 8) ≡ length p = omega arith in rw e
@@ -95,7 +95,7 @@ module _ (k c w sum : ℕ) (s : List ℕ) (named : known k c ≡ true) (room : l
   misnamed-dispatched = known-pair packet (record { low = omega arith; high = omega arith }) named
 
   -- so where the fixed part is there they are of the structured kind, which is not Raw
-  pub misnamed-structured : fixedLen k ≤ length s → (byBytes packet ≡ gives (8 ∷ optionsAt 8 k (length packet) ∷ kindOf k s)) × (getD (kindOf k s) 0 0 ≡ k) × (k ≡ 0 → ⊥)
+  pub misnamed-structured : fixedLen k ≤ length s → (byBytes packet ≡ gives (8 ∷ optionsAt 8 k (length packet) ∷ payloadKind k s)) × (getD (payloadKind k s) 0 0 ≡ k) × (k ≡ 0 → ⊥)
   misnamed-structured present = (
     misnamed-dispatched ∙ whole 8 k packet (omega arith),
     rw (known-0 k c named),

@@ -11,7 +11,7 @@ use borrow.Author.Tests.{lt-ltb, le-ltb, ltb-true, ltb-false}
 use Rattle.paper.specs.Paper.{Paper, refuses, gives}
 use Rattle.message_table.specs.Table.{known, fixedLen, isNdp}
 use Rattle.packet_length.proofs.Laws.{Between, sized-fits, behind}
-use Rattle.icmpv6_payload_slice.specs.Dispatch.{kindOf, optionsAt, partsOf, payloadOf, kindAt, byBytes}
+use Rattle.icmpv6_payload_slice.specs.Dispatch.{payloadKind, optionsAt, partsOf, payloadOf, kindAt, byBytes}
 
 module _ (base k : ℕ) (s : List ℕ) where
   pub short : length s - base < fixedLen k → payloadOf base k s ≡ refuses 4 (fixedLen k ∷ (length s - base) ∷ [])

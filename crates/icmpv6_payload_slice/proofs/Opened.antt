@@ -17,7 +17,7 @@ use Rattle.packet_length.proofs.Laws.{Between}
 use Rattle.icmpv6_payload_slice.specs.declared.Icmpv6PayloadSlice.{Icmpv6PayloadSlice}
 use Rattle.icmpv6_payload_slice.specs.declared.PayloadRead.{PayloadRead}
 use Rattle.icmpv6_payload_slice.specs.declared.PayloadRead.the-variants.{Payload, Refused}
-use Rattle.icmpv6_payload_slice.specs.Dispatch.{kindOf, kindNumber, readTold, optionsAt, partsOf, payloadOf, kindAt, byBytes}
+use Rattle.icmpv6_payload_slice.specs.Dispatch.{payloadKind, payloadKindNumber, payloadTold, optionsAt, partsOf, payloadOf, kindAt, byBytes}
 use Rattle.icmpv6_payload_slice.proofs.Laws.{fitting, not-short, is-short, options-within}
 
 -- a type that has some code has code 0
@@ -25,15 +25,15 @@ pub known-0 : (k c : ℕ) → known k c ≡ true → known k 0 ≡ true
 unfolding known
 known-0 k c e = let l = ltb-true c (rowOf rows k .codes) e in lt-ltb 0 (rowOf rows k .codes) (omega arith)
 
-raw-first : (s : List ℕ) → getD (kindOf 0 s) 0 0 ≡ 0
+raw-first : (s : List ℕ) → getD (payloadKind 0 s) 0 0 ≡ 0
 unfolding known
 raw-first s = refl
 
 -- the kind of a packet is told as its first number
-pub kind-first : (p s : List ℕ) → getD (kindOf (kindAt p) s) 0 0 ≡ kindAt p
+pub kind-first : (p s : List ℕ) → getD (payloadKind (kindAt p) s) 0 0 ≡ kindAt p
 kind-first p s = by (known (getD p 0 0) (getD p 1 0)) refl
   where
-    by : (b : Bool) → known (getD p 0 0) (getD p 1 0) ≡ b → getD (kindOf (cond b (getD p 0 0) 0) s) 0 0 ≡ cond b (getD p 0 0) 0
+    by : (b : Bool) → known (getD p 0 0) (getD p 1 0) ≡ b → getD (payloadKind (cond b (getD p 0 0) 0) s) 0 0 ≡ cond b (getD p 0 0) 0
     by true e = rw (known-0 (getD p 0 0) (getD p 1 0) e)
     by false e = raw-first s
 
@@ -43,11 +43,11 @@ pub record Placed (base k : ℕ) (s : List ℕ) (m : Icmpv6PayloadSlice) : Type 
   pub options : m .«options_at» ≡ optionsAt base k (length s)
   pub fixed : fixedLen k ≤ length s - base
   pub within : m .«options_at» ≤ length s
-  pub told : readTold (Payload m) ≡ partsOf base k s
+  pub told : payloadTold (Payload m) ≡ partsOf base k s
 
-pub placed : (base k : ℕ) (s : List ℕ) {m : Icmpv6PayloadSlice} → base ≤ length s → readTold (Payload m) ≡ payloadOf base k s → Placed base k s m
+pub placed : (base k : ℕ) (s : List ℕ) {m : Icmpv6PayloadSlice} → base ≤ length s → payloadTold (Payload m) ≡ payloadOf base k s → Placed base k s m
 placed base k s {m} b e =
-    let h = not-short base k s (readTold (Payload m)) (λ z. omega (arith, z)) (sym e) in
+    let h = not-short base k s (payloadTold (Payload m)) (λ z. omega (arith, z)) (sym e) in
     let at : m .«options_at» ≡ optionsAt base k (length s) = ap (λ (q : Paper). getD (q .values) 1 0) (h .1) in
     let in′ : optionsAt base k (length s) ≤ length s = options-within base k s b (h .0) in
     record { payload = ap (λ (q : Paper). getD (q .values) 0 0) (h .1); options = at; fixed = h .0; within = rw at in′; told = h .1 }
@@ -56,30 +56,30 @@ placed base k s {m} b e =
 pub record Opened (p : List ℕ) (m : Icmpv6PayloadSlice) : Type 0 where
   pub payload : m .«payload_at» ≡ 8
   pub options : m .«options_at» ≡ optionsAt 8 (kindAt p) (length p)
-  pub kind : kindNumber (m .kind) ≡ kindAt p
+  pub kind : payloadKindNumber (m .kind) ≡ kindAt p
   pub fixed : 8 + fixedLen (kindAt p) ≤ length p
   pub within : m .«options_at» ≤ length p
   pub told : byBytes p ≡ partsOf 8 (kindAt p) p
 
-module _ (p : List ℕ) (fits : Between (length p)) (x : PayloadRead) (e : readTold x ≡ byBytes p) where
-  here : payloadOf 8 (kindAt p) p ≡ readTold x
+module _ (p : List ℕ) (fits : Between (length p)) (x : PayloadRead) (e : payloadTold x ≡ byBytes p) where
+  here : payloadOf 8 (kindAt p) p ≡ payloadTold x
   here = sym (fitting p fits) ∙ sym e
 
   pub opened : {m : Icmpv6PayloadSlice} → x ≡ Payload m → Opened p m
   opened {m} arm =
-      let h = placed 8 (kindAt p) p {m = m} (fits .low) (sym (ap readTold arm) ∙ sym here) in
+      let h = placed 8 (kindAt p) p {m = m} (fits .low) (sym (ap payloadTold arm) ∙ sym here) in
       record {
         payload = h .payload;
         options = h .options;
         kind = ap (λ (q : Paper). getD (drop 2 (q .values)) 0 0) (h .told) ∙ kind-first p (drop 8 p);
         fixed = omega (arith, h .fixed, fits .low);
         within = h .within;
-        told = fitting p fits ∙ here ∙ ap readTold arm ∙ h .told;
+        told = fitting p fits ∙ here ∙ ap payloadTold arm ∙ h .told;
       }
 
   -- where it is refused, it is refused 4
   pub short-refused : {why : Refusal} → x ≡ Refused why → byBytes p .number ≡ 4
   short-refused {why} arm =
       let n : (refusal why .number ≡ 0 → ⊥) = λ z. false≢true (sym (refusal-numbered why) ∙ ap (λ (n : ℕ). eqb n 0) z) in
-      let h = is-short 8 (kindAt p) p (refusal why) n (here ∙ ap readTold arm) in
-      ap (λ (q : Paper). q .number) (sym e ∙ ap readTold arm ∙ h .1)
+      let h = is-short 8 (kindAt p) p (refusal why) n (here ∙ ap payloadTold arm) in
+      ap (λ (q : Paper). q .number) (sym e ∙ ap payloadTold arm ∙ h .1)

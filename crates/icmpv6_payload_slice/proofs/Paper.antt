@@ -14,7 +14,7 @@ use Rattle.icmpv6_payload_slice.specs.declared.Icmpv6PayloadKind.{Icmpv6
 use Rattle.icmpv6_payload_slice.specs.declared.Icmpv6PayloadKind.the-variants.{Raw, DestinationUnreachable, PacketTooBig, TimeExceeded, ParameterProblem, EchoRequest, EchoReply, RouterSolicitation, RouterAdvertisement, NeighborSolicitation, NeighborAdvertisement, Redirect}
 use Rattle.icmpv6_payload_slice.specs.declared.PayloadRead.{PayloadRead}
 use Rattle.icmpv6_payload_slice.specs.declared.PayloadRead.the-variants.{Payload, Refused}
-use Rattle.icmpv6_payload_slice.specs.Dispatch.{kindTold, readTold}
+use Rattle.icmpv6_payload_slice.specs.Dispatch.{kindTold, payloadTold}
 
 abbrev kindFrom : List ℕ → Icmpv6PayloadKind
 kindFrom l =
@@ -51,9 +51,9 @@ readFrom p =
     cond (eqb (p .number) 0) (Payload (record { kind = kindFrom (drop 2 (p .values)); «payload_at» = getD (p .values) 0 0; «options_at» = getD (p .values) 1 0 }))
     (Refused (refusalOf p))
 
-read-back : (r : PayloadRead) → readFrom (readTold r) ≡ r
+read-back : (r : PayloadRead) → readFrom (payloadTold r) ≡ r
 read-back (Payload p) = simp (kind-back (p .kind))
 read-back (Refused r) = simp (refusal-numbered r, refusal-back r)
 
-pub read-lossless : (x y : PayloadRead) → readTold x ≡ readTold y → x ≡ y
-read-lossless = lossless readTold readFrom read-back
+pub read-lossless : (x y : PayloadRead) → payloadTold x ≡ payloadTold y → x ≡ y
+read-lossless = lossless payloadTold readFrom read-back

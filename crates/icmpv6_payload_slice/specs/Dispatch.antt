@@ -20,8 +20,8 @@ use Rattle.icmpv6_payload_slice.specs.declared.PayloadRead.the-variants.
 use Rattle.icmpv6_payload.specs.Owned.{timersIn, timersTold}
 
 -- the kind of a type that the table has is the type, with the timers of a router advertisement; of any other it is 0, raw
-abbrev pub kindOf : ℕ → List ℕ → List ℕ
-kindOf k s = cond (known k 0) (k ∷ cond (eqb k 134) (timersIn s) []) (0 ∷ [])
+abbrev pub payloadKind : ℕ → List ℕ → List ℕ
+payloadKind k s = cond (known k 0) (k ∷ cond (eqb k 134) (timersIn s) []) (0 ∷ [])
 
 -- where the options are: behind the fixed part of a message of Neighbor Discovery; another kind has none, and they are told at its end
 abbrev pub optionsAt : ℕ → ℕ → ℕ → ℕ
@@ -33,7 +33,7 @@ optionsIn base k s = drop (optionsAt base k (length s)) s
 
 -- the place of the payload, that of the options, and the kind
 abbrev pub partsOf : ℕ → ℕ → List ℕ → Paper
-partsOf base k s = gives (base ∷ optionsAt base k (length s) ∷ kindOf k (drop base s))
+partsOf base k s = gives (base ∷ optionsAt base k (length s) ∷ payloadKind k (drop base s))
 
 -- refusal 4 where the fixed part is not all there
 unfoldable pub payloadOf : ℕ → ℕ → List ℕ → Paper
@@ -66,9 +66,9 @@ kindTold NeighborSolicitation = 135 ∷ []
 kindTold NeighborAdvertisement = 136 ∷ []
 kindTold Redirect = 137 ∷ []
 
-abbrev pub kindNumber : Icmpv6PayloadKind → ℕ
-kindNumber k = getD (kindTold k) 0 0
+abbrev pub payloadKindNumber : Icmpv6PayloadKind → ℕ
+payloadKindNumber k = getD (kindTold k) 0 0
 
-abbrev pub readTold : PayloadRead → Paper
-readTold (Payload p) = gives (p .«payload_at» ∷ p .«options_at» ∷ kindTold (p .kind))
-readTold (Refused r) = refusal r
+abbrev pub payloadTold : PayloadRead → Paper
+payloadTold (Payload p) = gives (p .«payload_at» ∷ p .«options_at» ∷ kindTold (p .kind))
+payloadTold (Refused r) = refusal r

@@ -5,7 +5,7 @@ ghost use Prim.Native.Nat.{_+_, _<_, _≤_};
 ghost use lib.ListN.{length, drop};
 ghost use mathlib.Core.Bool.{cond};
 ghost use Rattle.message_table.specs.Table.{fixedLen, isNdp};
-ghost use Rattle.icmpv6_payload_slice.specs.Dispatch.{kindOf, kindTold, kindNumber, readTold, payloadOf, kindAt, byValue, byBytes};
+ghost use Rattle.icmpv6_payload_slice.specs.Dispatch.{payloadKind, kindTold, payloadKindNumber, payloadTold, payloadOf, kindAt, byValue, byBytes};
 ghost use Rattle.icmpv6_payload_slice.specs.Parts.{addresses, addressPart};
 use icmpv6_payload::router_advertisement_payload::RouterAdvertisementPayload;
 use icmpv6_type::Icmpv6Type;
@@ -54,7 +54,7 @@ const IPV6_ADDRESS_LEN: usize = 16;
 // The kind of a payload whose fixed part is there.
 fn kind_of(type_u8: u8, payload: &[u8]) -> Icmpv6PayloadKind
     requires { ⌜ fixedLen «type_u8» ≤ length (now payload) ⌝ }
-    ensures { λ r. ⌜ kindTold r ≡ kindOf «type_u8» (now (payload .entry)) ⌝ }
+    ensures { λ r. ⌜ kindTold r ≡ payloadKind «type_u8» (now (payload .entry)) ⌝ }
 {
     match type_u8 {
         1 => Icmpv6PayloadKind::DestinationUnreachable,
@@ -95,7 +95,7 @@ fn options_place(type_u8: u8, fixed_end: usize, length: usize) -> usize
 // The message of a type whose payload begins at a place: Raw of a type that the table does not have.
 fn from_type(type_u8: u8, bytes: &[u8], payload_at: usize) -> PayloadRead
     requires { ⌜ «payload_at» ≤ length (now bytes) ⌝ }
-    ensures { λ r. ⌜ readTold r ≡ payloadOf «payload_at» «type_u8» (now (bytes .entry)) ⌝ }
+    ensures { λ r. ⌜ payloadTold r ≡ payloadOf «payload_at» «type_u8» (now (bytes .entry)) ⌝ }
 {
     let needed = message_table::fixed_len(type_u8);
     let present = bytes.len() - payload_at;
@@ -156,7 +156,7 @@ fn address(type_u8: u8, bytes: &[u8], payload_at: usize, i: usize) -> &[u8]
 impl Icmpv6PayloadKind {
     // The type of the message; 0 of Raw.
     pub fn type_u8(self) -> u8
-        ensures { λ r. ⌜ r ≡ kindNumber self ⌝ }
+        ensures { λ r. ⌜ r ≡ payloadKindNumber self ⌝ }
     {
         match self {
             Icmpv6PayloadKind::Raw => 0,
@@ -178,14 +178,14 @@ impl Icmpv6PayloadKind {
 impl Icmpv6PayloadSlice {
     // By the value of the head and the payload: an Unknown is Raw, whatever pair it names. Places count from the payload's first byte.
     pub fn from_slice(icmp_type: Icmpv6Type, payload: &[u8]) -> PayloadRead
-        ensures { λ r. ⌜ readTold r ≡ byValue «icmp_type» (now (payload .entry)) ⌝ }
+        ensures { λ r. ⌜ payloadTold r ≡ byValue «icmp_type» (now (payload .entry)) ⌝ }
     {
         from_type(icmp_type.kind_u8(), payload, 0)
     }
 
     // By the bytes of a packet: its type and code. Places count from the packet's first byte.
     pub fn from_packet(packet: &[u8]) -> PayloadRead
-        ensures { λ r. ⌜ readTold r ≡ byBytes (now (packet .entry)) ⌝ }
+        ensures { λ r. ⌜ payloadTold r ≡ byBytes (now (packet .entry)) ⌝ }
     {
         match packet_length::check_len(packet.len()) {
             PacketLength::Refused(why) => PayloadRead::Refused(why),
@@ -196,7 +196,7 @@ impl Icmpv6PayloadSlice {
     // The target of a neighbor solicitation, a neighbor advertisement or a redirect, in the bytes that were dispatched: 16 bytes, and none of another
     // kind.
     pub fn target_address(self, bytes: &[u8]) -> &[u8]
-        ensures { λ r. ⌜ now r ≡ addressPart (self .«payload_at») 0 (kindNumber (self .kind)) (now (bytes .entry)) ⌝ }
+        ensures { λ r. ⌜ now r ≡ addressPart (self .«payload_at») 0 (payloadKindNumber (self .kind)) (now (bytes .entry)) ⌝ }
     {
         let kind = self.kind;
         address(kind.type_u8(), bytes, self.payload_at, 0)
@@ -204,7 +204,7 @@ impl Icmpv6PayloadSlice {
 
     // The destination field of a redirect: 16 bytes, and none of another kind.
     pub fn destination_address(self, bytes: &[u8]) -> &[u8]
-        ensures { λ r. ⌜ now r ≡ addressPart (self .«payload_at») 1 (kindNumber (self .kind)) (now (bytes .entry)) ⌝ }
+        ensures { λ r. ⌜ now r ≡ addressPart (self .«payload_at») 1 (payloadKindNumber (self .kind)) (now (bytes .entry)) ⌝ }
     {
         let kind = self.kind;
         address(kind.type_u8(), bytes, self.payload_at, 1)

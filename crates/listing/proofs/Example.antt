@@ -16,8 +16,8 @@ use Rattle.ndp_walk.specs.Judge.{judge}
 use Rattle.ndp_walk.specs.Walk.{walkOn, walkFrom}
 use Rattle.ndp_options.specs.Rule.{rule}
 use Rattle.ndp_option_list.specs.Whole.{occurs}
-use Rattle.lines.specs.Digits.{decimalBy, decimal}
-use Rattle.lines.specs.Text.{ascii, field}
+use Rattle.dump_lines.specs.Digits.{decimalBy, decimal}
+use Rattle.dump_lines.specs.Text.{ascii, field}
 use Rattle.capture.specs.Record.{recordBytes, recordOf}
 use Rattle.capture.specs.Capture.{captureBy, captureFrom}
 use Rattle.listing.specs.Packet.{headText, itemsText, optionsText, packetText, recordText}

@@ -18,16 +18,16 @@ use Rattle.message_table.proofs.Laws.{fixed-outside}
 use Rattle.icmpv6_payload_slice.specs.declared.Icmpv6PayloadSlice.{Icmpv6PayloadSlice}
 use Rattle.icmpv6_payload_slice.specs.declared.PayloadRead.{PayloadRead}
 use Rattle.icmpv6_payload_slice.specs.declared.PayloadRead.the-variants.{Payload, Refused}
-use Rattle.icmpv6_payload_slice.specs.Dispatch.{kindNumber, readTold, optionsAt, kindAt, byBytes}
+use Rattle.icmpv6_payload_slice.specs.Dispatch.{payloadKindNumber, payloadTold, optionsAt, kindAt, byBytes}
 use Rattle.receive.specs.Receive.{isSound, reasonOf}
 use Rattle.wire.specs.Wire.{word16At}
-use Rattle.lines.specs.declared.Line.the-variants.{Head}
-use Rattle.lines.specs.Line.{text}
+use Rattle.dump_lines.specs.declared.Line.the-variants.{Head}
+use Rattle.dump_lines.specs.Line.{text}
 use Rattle.icmpv6_payload_slice.proofs.Laws.{whole, other-pair}
 use Rattle.icmpv6_payload_slice.proofs.Opened.{opened, short-refused}
 use Rattle.ndp_options.specs.Walk.{walk}
 use Rattle.ndp_walk.specs.Walk.{Item, Walk, then, clean, refused}
-use Rattle.lines.specs.Text.{optLine, endLine, refusedAtLine, refusedLine}
+use Rattle.dump_lines.specs.Text.{optLine, endLine, refusedAtLine, refusedLine}
 use Rattle.listing.specs.Packet.{headText, itemsText, endingText, walkText, optionsText, packetText}
 
 -- an option, and the walk behind it
@@ -61,13 +61,13 @@ unfolding headText
 head-line hop source destination p k o r = rw (k, o, r)
 
 -- ---- a packet, by what the dispatch answers
-module _ (hop : ℕ) (source destination p : List ℕ) (x : PayloadRead) (e : readTold x ≡ byBytes p) where
+module _ (hop : ℕ) (source destination p : List ℕ) (x : PayloadRead) (e : payloadTold x ≡ byBytes p) where
   -- where it is refused for another reason than its fixed part, that is its length
   misfit-4 : {why : Refusal} → x ≡ Refused why → (number why ≡ 4 → ⊥) → fits (length p) ≡ false
   misfit-4 {why} arm n = by (fits (length p)) refl
     where
       by : (b : Bool) → fits (length p) ≡ b → b ≡ false
-      by true f = absurd (n (ap (λ (q : Paper). q .number) (sym (ap readTold arm) ∙ e) ∙ short-refused p (fits-or (length p) f) x e arm))
+      by true f = absurd (n (ap (λ (q : Paper). q .number) (sym (ap payloadTold arm) ∙ e) ∙ short-refused p (fits-or (length p) f) x e arm))
       by false f = refl
 
   pub not-opened : {why : Refusal} → x ≡ Refused why → (number why ≡ 4 → ⊥) → packetText hop source destination p ≡ refusedLine (number why)
@@ -77,16 +77,16 @@ module _ (hop : ℕ) (source destination p : List ℕ) (x : PayloadRead) (e : re
   -- else it has a head
   pub has-head : {m : Icmpv6PayloadSlice} → x ≡ Payload m → Between (length p)
   unfolding byBytes
-  has-head {m} arm = behind (length p) _ (readTold (Payload m)) (λ z. omega arith) (λ z. omega arith) (sym e ∙ ap readTold arm) .0
+  has-head {m} arm = behind (length p) _ (payloadTold (Payload m)) (λ z. omega arith) (λ z. omega arith) (sym e ∙ ap payloadTold arm) .0
 
   pub has-head-4 : {why : Refusal} → x ≡ Refused why → number why ≡ 4 → Between (length p)
   unfolding byBytes
   has-head-4 {why} arm n =
-      behind (length p) _ (refusal why) (λ z. omega (arith, n, z)) (λ z. omega (arith, n, z)) (sym e ∙ ap readTold arm) .0
+      behind (length p) _ (refusal why) (λ z. omega (arith, n, z)) (λ z. omega (arith, n, z)) (sym e ∙ ap payloadTold arm) .0
 
   pub shown : {m : Icmpv6PayloadSlice} → x ≡ Payload m →
       packetText hop source destination p
-      ≡ headText hop source destination p ++ cond (isNdp (kindNumber (m .kind))) (walkText 0 (walk (drop (m .«options_at») p))) []
+      ≡ headText hop source destination p ++ cond (isNdp (payloadKindNumber (m .kind))) (walkText 0 (walk (drop (m .«options_at») p))) []
   unfolding packetText optionsText
   shown {m} arm =
       let b = has-head arm in

@@ -10,23 +10,23 @@ use lib.Dec.{eqb}
 use lib.ListN.{length, take, drop, take-append-drop, length-append}
 use lib.Seq.{length-take-le, drop-append-le}
 use Rattle.capture.specs.Record.{hopLimit, source, destination, packet, packetLen, recordOf, isRecord}
-use Rattle.capture.specs.Capture.{Item, Capture, settled, recordLen, follow, captureFrom}
+use Rattle.capture.specs.Capture.{RecordAt, Capture, settled, recordLen, recordsThen, captureFrom}
 use Rattle.capture.proofs.Laws.{is-found, stable, same-len, same-parts}
 use Rattle.capture.proofs.Whole.{first, goes-on, stops, along, joined}
-use Rattle.lines.specs.Text.{titleLine, recordsLine, stoppedLine}
+use Rattle.dump_lines.specs.Text.{titleLine, recordsLine, stoppedLine}
 use Rattle.listing.specs.Packet.{recordText}
 use Rattle.ndp_walk.specs.Laws.{concat}
 use Rattle.listing.specs.Whole.{itemText, recordsText, lastText, restText, listingOf, piecesText}
 
 -- records, and then a capture
-records-follow : (n : ℕ) (is js : List Item) → recordsText n (is ++ js) ≡ recordsText n is ++ recordsText (n + length is) js
+records-follow : (n : ℕ) (is js : List RecordAt) → recordsText n (is ++ js) ≡ recordsText n is ++ recordsText (n + length is) js
 unfolding recordsText
 records-follow n [] js = rw (add-zero n)
 records-follow n (i ∷ is) js =
     let e : n + length (i ∷ is) ≡ n + 1 + length is = omega arith in
     rw (e, records-follow (n + 1) is js) (sym (append-assoc (itemText (n + 1) i) (recordsText (n + 1) is) (recordsText (n + 1 + length is) js)))
 
-pub follows : (n : ℕ) (is : List Item) (c : Capture) → restText n (follow is c) ≡ recordsText n is ++ restText (n + length is) c
+pub follows : (n : ℕ) (is : List RecordAt) (c : Capture) → restText n (recordsThen is c) ≡ recordsText n is ++ restText (n + length is) c
 unfolding restText
 follows n is c =
     let e : n + length (is ++ c .records) ≡ n + length is + length (c .records) = simp length-append (omega arith) in

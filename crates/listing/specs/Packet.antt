@@ -11,13 +11,13 @@ use Rattle.wire.specs.Wire.{word16At}
 use Rattle.packet_length.specs.Length.{fits}
 use Rattle.message_table.specs.Table.{isNdp}
 use Rattle.icmpv6_payload_slice.specs.Dispatch.{kindAt, byBytes}
-use Rattle.receive.specs.Receive.{optionsOf, isSound, reasonOf}
+use Rattle.receive.specs.Receive.{packetOptions, isSound, reasonOf}
 use Rattle.ndp_walk.specs.Walk.{Item, Ending, Clean, RefusedAt, Walk}
 use Rattle.ndp_options.specs.Walk.{walk}
 use Rattle.output.specs.Output.{roomFor, leaves}
 use Rattle.capture.specs.Record.{recorded}
-use Rattle.lines.specs.Line.{wordFor, okWord}
-use Rattle.lines.specs.Text.{recordLine, headLine, optLine, endLine, refusedAtLine, refusedLine}
+use Rattle.dump_lines.specs.Line.{wordFor, okWord}
+use Rattle.dump_lines.specs.Text.{recordLine, headLine, optLine, endLine, refusedAtLine, refusedLine}
 
 -- the kind, the code, the checksum field and the verdict on it, the length, and the reason of the receive check
 unfoldable pub headText : ℕ → List ℕ → List ℕ → List ℕ → List ℕ
@@ -42,7 +42,7 @@ walkText n w = itemsText (w .items) ++ endingText (n + length (w .items)) (w .en
 unfoldable pub optionsText : List ℕ → List ℕ
 optionsText p =
     cond (eqb (byBytes p .number) 4) (refusedLine 4)
-    (cond (isNdp (kindAt p)) (walkText 0 (walk (optionsOf p))) [])
+    (cond (isNdp (kindAt p)) (walkText 0 (walk (packetOptions p))) [])
 
 -- a packet whose length is refused prints its refusal only
 unfoldable pub packetText : ℕ → List ℕ → List ℕ → List ℕ → List ℕ

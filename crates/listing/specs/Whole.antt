@@ -6,16 +6,16 @@ use mathlib.Core.List.{List, [], _∷_, _++_}
 use lib.Dec.{eqb}
 use lib.ListN.{length}
 use Rattle.capture.specs.Record.{hopLimit, source, destination, packet}
-use Rattle.capture.specs.Capture.{Item, Capture, settled, captureFrom}
-use Rattle.lines.specs.Text.{titleLine, recordsLine, stoppedLine}
+use Rattle.capture.specs.Capture.{RecordAt, Capture, settled, captureFrom}
+use Rattle.dump_lines.specs.Text.{titleLine, recordsLine, stoppedLine}
 use Rattle.listing.specs.Packet.{recordText}
 
 -- the text of a record, which has a number
-abbrev pub itemText : ℕ → Item → List ℕ
+abbrev pub itemText : ℕ → RecordAt → List ℕ
 itemText number i = recordText number (i .place) (hopLimit (i .bytes)) (source (i .bytes)) (destination (i .bytes)) (packet (i .bytes))
 
 -- of records that are numbered from n + 1 on
-unfoldable pub recordsText : ℕ → List Item → List ℕ
+unfoldable pub recordsText : ℕ → List RecordAt → List ℕ
 recordsText n [] = []
 recordsText n (i ∷ is) = itemText (n + 1) i ++ recordsText (n + 1) is
 

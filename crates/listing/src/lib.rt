@@ -7,11 +7,11 @@ ghost use lib.ListN.{length, getD, drop};
 ghost use Rattle.wire.specs.Wire.{word16At};
 ghost use Rattle.output.specs.Output.{writtenTold, Wrote};
 ghost use Rattle.ndp_options.specs.Walk.{walk};
-ghost use Rattle.lines.specs.Line.{text};
+ghost use Rattle.dump_lines.specs.Line.{text};
 ghost use Rattle.message_table.specs.Table.{isNdp};
 ghost use Rattle.listing.specs.Packet.{walkText, packetText, recordText, Puts, putLeaves};
+use dump_lines::Line;
 use icmpv6_payload_slice::PayloadRead;
-use lines::Line;
 use ndp_options::Cursor;
 use ndp_options::Step;
 use output::Written;
@@ -188,7 +188,7 @@ fn put_line(out: &mut [u8], at: usize, line: Line) -> usize
     ensures wrote { λ r. ⌜ Wrote (now (out .entry)) at (text line) (now (out .exit)) r ⌝ }
     ensures short { λ r. ⌜ r ≤ at + 128 ⌝ }
 {
-    match lines::put_line(out, at, line) {
+    match dump_lines::put_line(out, at, line) {
         Written::To(n) => n,
         // Never: there is room.
         Written::Refused(_) => at,

@@ -4,6 +4,6 @@ use Prim.Native.Nat.{ℕ}
 use Rattle.ndp_option.specs.declared.link_layer_address_option.LinkLayerAddressOption.{LinkLayerAddressOption}
 use Rattle.ndp_option.specs.declared.link_layer_address_option.LinkLayerAddressOption.the-variants.{Source, Target}
 
-abbrev pub typeOf : LinkLayerAddressOption → ℕ
-typeOf Source = 1
-typeOf Target = 2
+abbrev pub linkLayerType : LinkLayerAddressOption → ℕ
+linkLayerType Source = 1
+linkLayerType Target = 2

@@ -2,7 +2,7 @@
 // For source_ and target_link_layer_address_option_slice.rs, by the tests of the redirected header (docs/DECISIONS.md).
 ghost use mathlib.Core.Path.{_≡_};
 ghost use Rattle.ndp_option_read.specs.Rule.{readTold, sizedOf, partFrom};
-ghost use Rattle.ndp_option.specs.LinkLayer.{typeOf};
+ghost use Rattle.ndp_option.specs.LinkLayer.{linkLayerType};
 use ndp_option_read::NdpOptionRead;
 use refusal::NdpOptionType;
 
@@ -14,7 +14,7 @@ pub enum LinkLayerAddressOption {
 
 impl LinkLayerAddressOption {
     pub fn option_type(self) -> NdpOptionType
-        ensures { λ r. ⌜ r .0 ≡ typeOf self ⌝ }
+        ensures { λ r. ⌜ r .0 ≡ linkLayerType self ⌝ }
     {
         match self {
             LinkLayerAddressOption::Source => NdpOptionType(1),
@@ -23,14 +23,14 @@ impl LinkLayerAddressOption {
     }
 
     pub fn from_slice(self, slice: &[u8]) -> NdpOptionRead
-        ensures { λ r. ⌜ readTold r ≡ sizedOf (typeOf self) (now (slice .entry)) ⌝ }
+        ensures { λ r. ⌜ readTold r ≡ sizedOf (linkLayerType self) (now (slice .entry)) ⌝ }
     {
         ndp_option_read::sized(self.option_type(), slice)
     }
 
     // The address with any padding behind it; no bytes if the option is refused.
     pub fn link_layer_address(self, slice: &[u8]) -> &[u8]
-        ensures { λ r. ⌜ now r ≡ partFrom 2 (sizedOf (typeOf self) (now (slice .entry))) (now (slice .entry)) ⌝ }
+        ensures { λ r. ⌜ now r ≡ partFrom 2 (sizedOf (linkLayerType self) (now (slice .entry))) (now (slice .entry)) ⌝ }
     {
         crate::part(self.from_slice(slice), slice, 2)
     }

@@ -10,7 +10,7 @@ use lib.ListN.{getD, length}
 use Rattle.paper.specs.Paper.{Paper}
 use Rattle.paper.proofs.Lossless.{lossless}
 use Rattle.refusal.proofs.Paper.{refusalOf, refusal-back, refusal-numbered}
-use Rattle.ndp_option_header.specs.Header.{headerBytes, headerTold}
+use Rattle.ndp_option_header.specs.Header.{headerBytes, optionHeaderTold}
 use Rattle.ndp_option_header.specs.declared.NdpOptionHeader.{NdpOptionHeader}
 use Rattle.ndp_option_header.specs.declared.HeaderRead.{HeaderRead}
 use Rattle.ndp_option_header.specs.declared.HeaderRead.the-variants.{Header, Refused}
@@ -32,9 +32,9 @@ header-lossless = lossless headerBytes headerBack (λ h. refl)
 abbrev readBack : Paper → HeaderRead
 readBack p = cond (eqb (p .number) 0) (Header (headerBack (p .values))) (Refused (refusalOf p))
 
-read-back : (r : HeaderRead) → readBack (headerTold r) ≡ r
+read-back : (r : HeaderRead) → readBack (optionHeaderTold r) ≡ r
 read-back (Header h) = refl
 read-back (Refused why) = simp (refusal-numbered why, refusal-back why)
 
-pub read-lossless : (x y : HeaderRead) → headerTold x ≡ headerTold y → x ≡ y
-read-lossless = lossless headerTold readBack read-back
+pub read-lossless : (x y : HeaderRead) → optionHeaderTold x ≡ optionHeaderTold y → x ≡ y
+read-lossless = lossless optionHeaderTold readBack read-back

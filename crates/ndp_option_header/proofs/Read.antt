@@ -11,7 +11,7 @@ use Rattle.paper.specs.Paper.{Paper, refuses, gives}
 use Rattle.refusal.specs.declared.Refusal.{Refusal}
 use Rattle.refusal.specs.Paper.{refusal}
 use Rattle.refusal.proofs.Paper.{refusal-numbered}
-use Rattle.ndp_option_header.specs.Header.{headerBytes, headerTold, headerOf}
+use Rattle.ndp_option_header.specs.Header.{headerBytes, optionHeaderTold, headerOf}
 use Rattle.ndp_option_header.specs.declared.NdpOptionHeader.{NdpOptionHeader}
 use Rattle.ndp_option_header.specs.declared.HeaderRead.{HeaderRead}
 use Rattle.ndp_option_header.specs.declared.HeaderRead.the-variants.{Header, Refused}
@@ -30,9 +30,9 @@ pub record HeaderOf (s : List ℕ) (h : NdpOptionHeader) : Type 0 where
   pub units : h .«length_units» .0 ≡ getD s 1 0
 
 module _ (s : List ℕ) where
-  pub header-read : {x : HeaderRead} {h : NdpOptionHeader} → headerTold x ≡ headerOf s → x ≡ Header h → HeaderOf s h
+  pub header-read : {x : HeaderRead} {h : NdpOptionHeader} → optionHeaderTold x ≡ headerOf s → x ≡ Header h → HeaderOf s h
   header-read {h = h} e arm =
-      let says : gives (headerBytes h) ≡ headerOf s = sym (ap headerTold arm) ∙ e in
+      let says : gives (headerBytes h) ≡ headerOf s = sym (ap optionHeaderTold arm) ∙ e in
       elim (decLe 2 (length s)) [
         | yes l ↦
             let q = says ∙ long s l in
@@ -40,9 +40,9 @@ module _ (s : List ℕ) where
         | no l ↦ absurd (let z = ap (λ (p : Paper). p .number) (says ∙ short s (omega arith)) in omega arith)
       ]
 
-  pub header-refused : {x : HeaderRead} {why : Refusal} → headerTold x ≡ headerOf s → x ≡ Refused why → (length s < 2) × (refusal why ≡ refuses 5 (getD s 0 0 ∷ 2 ∷ length s ∷ []))
+  pub header-refused : {x : HeaderRead} {why : Refusal} → optionHeaderTold x ≡ headerOf s → x ≡ Refused why → (length s < 2) × (refusal why ≡ refuses 5 (getD s 0 0 ∷ 2 ∷ length s ∷ []))
   header-refused {why = why} e arm =
-      let says : refusal why ≡ headerOf s = sym (ap headerTold arm) ∙ e in
+      let says : refusal why ≡ headerOf s = sym (ap optionHeaderTold arm) ∙ e in
       elim (decLe 2 (length s)) [
         | yes l ↦ absurd (eqb-false _ _ (refusal-numbered why) (ap (λ (p : Paper). p .number) (says ∙ long s l)))
         | no l ↦ (omega arith, says ∙ short s (omega arith))

@@ -12,17 +12,17 @@ use Rattle.ndp_option_header.specs.declared.HeaderRead.{HeaderRead}
 use Rattle.ndp_option_header.specs.declared.HeaderRead.the-variants.{Header, Refused}
 
 -- the bytes that a number of units is
-abbrev pub bytesOf : ℕ → ℕ
-bytesOf units = 8 * units
+abbrev pub unitBytes : ℕ → ℕ
+unitBytes units = 8 * units
 
 -- a header as its two bytes
 abbrev pub headerBytes : NdpOptionHeader → List ℕ
 headerBytes h = h .«option_type» .0 ∷ h .«length_units» .0 ∷ []
 
 -- of a header its type and units
-abbrev pub headerTold : HeaderRead → Paper
-headerTold (Header h) = gives (headerBytes h)
-headerTold (Refused why) = refusal why
+abbrev pub optionHeaderTold : HeaderRead → Paper
+optionHeaderTold (Header h) = gives (headerBytes h)
+optionHeaderTold (Refused why) = refusal why
 
 -- under two bytes: refusal 5 (first byte or 0, 2, length); else the first two
 unfoldable pub headerOf : List ℕ → Paper

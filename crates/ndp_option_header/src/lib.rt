@@ -2,7 +2,7 @@
 // Port of ndp_option/ndp_option_header.rs.
 ghost use mathlib.Core.Path.{_≡_};
 ghost use lib.ListN.{drop};
-ghost use Rattle.ndp_option_header.specs.Header.{bytesOf, headerBytes, headerTold, headerOf};
+ghost use Rattle.ndp_option_header.specs.Header.{unitBytes, headerBytes, optionHeaderTold, headerOf};
 use refusal::LengthUnits;
 use refusal::NdpOptionType;
 use refusal::Refusal;
@@ -38,7 +38,7 @@ impl NdpOptionHeader {
 
     // The header at the start of a slice.
     pub fn from_slice(slice: &[u8]) -> HeaderRead
-        ensures { λ r. ⌜ headerTold r ≡ headerOf (now (slice .entry)) ⌝ }
+        ensures { λ r. ⌜ optionHeaderTold r ≡ headerOf (now (slice .entry)) ⌝ }
     {
         let length = slice.len();
         if length < NDP_OPTION_HEADER_LEN {
@@ -54,7 +54,7 @@ impl NdpOptionHeader {
 
     // The bytes of the whole option. Nothing else turns units into bytes.
     pub fn byte_len(self) -> usize
-        ensures { λ r. ⌜ r ≡ bytesOf (self .«length_units» .0) ⌝ }
+        ensures { λ r. ⌜ r ≡ unitBytes (self .«length_units» .0) ⌝ }
     {
         self.length_units.0 as usize * 8
     }

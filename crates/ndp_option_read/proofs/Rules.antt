@@ -8,7 +8,7 @@ use lib.ListN.{length, getD}
 use borrow.Author.Tests.{le-ltb, lt-ltb, eq-eqb, ne-eqb}
 use native.Mathlib.Decide.{decLe, ℕ-discrete}
 use Rattle.paper.specs.Paper.{Paper, gives}
-use Rattle.ndp_option_header.specs.Header.{bytesOf, headerBytes}
+use Rattle.ndp_option_header.specs.Header.{unitBytes, headerBytes}
 use Rattle.ndp_option_header.specs.declared.NdpOptionHeader.{NdpOptionHeader}
 use Rattle.ndp_option_read.specs.Rule.{exactlyOf, headed, sizedOf}
 
@@ -25,14 +25,14 @@ numbered e h = let z = ap (λ (p : Paper). p .number) e in absurd (omega arith)
 
 module _ (id units : ℕ) (s : List ℕ) where
   pub record Exact : Type 0 where
-    pub size : length s ≡ bytesOf units
+    pub size : length s ≡ unitBytes units
     pub kind : getD s 0 0 ≡ id
     pub says : getD s 1 0 ≡ units
 
   pub exactly-means : exactlyOf id units s ≡ gives [] → Exact
   unfolding exactlyOf
   exactly-means e =
-      elim (ℕ-discrete (length s) (bytesOf units)) [
+      elim (ℕ-discrete (length s) (unitBytes units)) [
         | no other ↦ numbered (simp (ne-eqb _ _ other) at e) (omega arith)
         | yes size ↦ elim (ℕ-discrete (getD s 0 0) id) [
           | no other ↦ numbered (simp (eq-eqb _ _ size, ne-eqb _ _ other) at e) (omega arith)
@@ -48,7 +48,7 @@ module _ (id units : ℕ) (s : List ℕ) where
   exactly-accepts h = simp (eq-eqb _ _ (h .size), eq-eqb _ _ (h .kind), eq-eqb _ _ (h .says))
 
   -- of bytes of the right number the header alone is judged: refusal 5 cannot come
-  pub exactly-headed : length s ≡ bytesOf units → exactlyOf id units s ≡ headed id units s
+  pub exactly-headed : length s ≡ unitBytes units → exactlyOf id units s ≡ headed id units s
   unfolding exactlyOf
   exactly-headed size = simp (eq-eqb _ _ size)
 
@@ -56,7 +56,7 @@ module _ (id : ℕ) (s : List ℕ) where
   pub record Sized : Type 0 where
     pub kind : getD s 0 0 ≡ id
     pub some : 0 < getD s 1 0
-    pub size : length s ≡ bytesOf (getD s 1 0)
+    pub size : length s ≡ unitBytes (getD s 1 0)
 
   pub sized-means : sizedOf id s ≡ gives [] → Sized
   unfolding sizedOf
@@ -67,7 +67,7 @@ module _ (id : ℕ) (s : List ℕ) where
           | no other ↦ numbered (simp (le-ltb _ _ long, ne-eqb _ _ other) at e) (omega arith)
           | yes kind ↦ elim (ℕ-discrete (getD s 1 0) 0) [
             | yes none ↦ numbered (simp (le-ltb _ _ long, eq-eqb _ _ kind, eq-eqb _ _ none) at e) (omega arith)
-            | no some ↦ elim (ℕ-discrete (length s) (bytesOf (getD s 1 0))) [
+            | no some ↦ elim (ℕ-discrete (length s) (unitBytes (getD s 1 0))) [
               | no other ↦ numbered (simp (le-ltb _ _ long, eq-eqb _ _ kind, ne-eqb _ _ some, ne-eqb _ _ other) at e) (omega arith)
               | yes size ↦ record { kind = kind; some = omega arith; size = size }
             ]

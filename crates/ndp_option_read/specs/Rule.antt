@@ -7,7 +7,7 @@ use lib.Dec.{eqb, ltb}
 use lib.ListN.{getD, length, drop}
 use Rattle.paper.specs.Paper.{Paper, refuses, gives}
 use Rattle.refusal.specs.Paper.{refusal}
-use Rattle.ndp_option_header.specs.Header.{bytesOf}
+use Rattle.ndp_option_header.specs.Header.{unitBytes}
 use Rattle.ndp_option_read.specs.declared.NdpOptionRead.{NdpOptionRead}
 use Rattle.ndp_option_read.specs.declared.NdpOptionRead.the-variants.{Accepted, Refused}
 
@@ -28,7 +28,7 @@ headed id units s =
 -- O1, an option of a fixed size: the size, then the header
 unfoldable pub exactlyOf : ℕ → ℕ → List ℕ → Paper
 exactlyOf id units s =
-    cond (differ (length s) (bytesOf units)) (refuses 5 (id ∷ bytesOf units ∷ length s ∷ []))
+    cond (differ (length s) (unitBytes units)) (refuses 5 (id ∷ unitBytes units ∷ length s ∷ []))
     (headed id units s)
 
 -- O2, an option of any size. Refusal 8 has the found units twice, since none are expected
@@ -37,7 +37,7 @@ sizedOf id s =
     cond (ltb (length s) 8) (refuses 5 (id ∷ 8 ∷ length s ∷ []))
     (cond (differ (getD s 0 0) id) (refuses 8 (id ∷ getD s 0 0 ∷ getD s 1 0 ∷ getD s 1 0 ∷ []))
     (cond (eqb (getD s 1 0) 0) (refuses 6 (id ∷ []))
-    (cond (differ (length s) (bytesOf (getD s 1 0))) (refuses 5 (id ∷ bytesOf (getD s 1 0) ∷ length s ∷ []))
+    (cond (differ (length s) (unitBytes (getD s 1 0))) (refuses 5 (id ∷ unitBytes (getD s 1 0) ∷ length s ∷ []))
     (gives []))))
 
 -- x where nothing is refused

@@ -14,7 +14,7 @@ use Rattle.paper.specs.Paper.{Paper, refuses}
 use Rattle.refusal.specs.declared.Refusal.{Refusal}
 use Rattle.refusal.specs.declared.Refusal.the-variants.{UnexpectedSize, ZeroLength, UnexpectedEndOfSlice}
 use Rattle.refusal.specs.Paper.{refusal}
-use Rattle.ndp_option_header.specs.Header.{bytesOf}
+use Rattle.ndp_option_header.specs.Header.{unitBytes}
 use Rattle.ndp_walk.specs.Judge.{Judgement, Ruling, Fits, Misfits, Bad, ruled, judge}
 use Rattle.ndp_walk.specs.Walk.{RefusedAt}
 use Rattle.ndp_walk.specs.Laws.{missing}
@@ -28,7 +28,7 @@ use Rattle.ndp_options.proofs.Rule.{misfits}
 pub data Reason (l : List ℕ) : Paper → Type 0 where
   short : length l ≡ 1 → Reason l (refuses 5 (getD l 0 0 ∷ 2 ∷ length l ∷ []))
   empty : Reason l (refuses 6 (getD l 0 0 ∷ []))
-  cut : Reason l (refuses 7 (getD l 0 0 ∷ bytesOf (getD l 1 0) ∷ length l ∷ []))
+  cut : Reason l (refuses 7 (getD l 0 0 ∷ unitBytes (getD l 1 0) ∷ length l ∷ []))
   misfit : (type asked len : ℕ) → 8 ≤ len → len ≤ length l → Reason l (refuses 5 (type ∷ asked ∷ len ∷ []))
 
 pub reason : (l : List ℕ) {why : Paper} → judge rule l ≡ Bad why → Reason l why
@@ -37,7 +37,7 @@ reason l {why} e = go (view rule l) e
     is : {p : Paper} → Reason l p → Bad p ≡ Bad why → Reason l why
     is {p} r q = let same : p ≡ why = cc in subst (Reason l) same r
 
-    own : (o : List ℕ) (r : Ruling) → 8 ≤ length o → length o ≤ length l → rule o ≡ r → ruled (getD l 0 0) (bytesOf (getD l 1 0)) r ≡ Bad why → Reason l why
+    own : (o : List ℕ) (r : Ruling) → 8 ≤ length o → length o ≤ length l → rule o ≡ r → ruled (getD l 0 0) (unitBytes (getD l 1 0)) r ≡ Bad why → Reason l why
     own o (Fits kind) h f q e = absurd (let z : _≡_ {A = ℕ} 0 1 = cc in omega arith)
     own o (Misfits p) h f q e = is (subst (Reason l) (misfits o p q) (misfit _ _ (length o) h f)) e
 
@@ -46,13 +46,13 @@ reason l {why} e = go (view rule l) e
     go (by.short h) e = is (short h) e
     go (by.empty h u) e = is empty e
     go (by.cut h u f) e = is cut e
-    go (by.whole u f) e = own (take (bytesOf (getD l 1 0)) l) _ (omega (arith, length-take-le (bytesOf (getD l 1 0)) l f)) (omega (arith, length-take-le (bytesOf (getD l 1 0)) l f)) refl e
+    go (by.whole u f) e = own (take (unitBytes (getD l 1 0)) l) _ (omega (arith, length-take-le (unitBytes (getD l 1 0)) l f)) (omega (arith, length-take-le (unitBytes (getD l 1 0)) l f)) refl e
 
 -- each is that of a refusal
 pub told-by : {l : List ℕ} {p : Paper} → Reason l p → (why : Refusal) × (refusal why ≡ p)
 told-by {l} (short h) = (UnexpectedSize (record { 0 = getD l 0 0 }) 2 (length l), refl)
 told-by {l} empty = (ZeroLength (record { 0 = getD l 0 0 }), refl)
-told-by {l} cut = (UnexpectedEndOfSlice (record { 0 = getD l 0 0 }) (bytesOf (getD l 1 0)) (length l), refl)
+told-by {l} cut = (UnexpectedEndOfSlice (record { 0 = getD l 0 0 }) (unitBytes (getD l 1 0)) (length l), refl)
 told-by (misfit type asked len h f) = (UnexpectedSize (record { 0 = type }) asked len, refl)
 
 module _ (s : List ℕ) {at : ℕ} {why : Paper} (e : walk s .ending ≡ RefusedAt at why) where

@@ -17,7 +17,7 @@ use Rattle.ndp_walk.proofs.Paths.{Rest, path-rest}
 use Rattle.ndp_walk.proofs.Steps.{within}
 use Rattle.ndp_options.specs.Rule.{rule}
 use Rattle.ndp_options.specs.Walk.{walk, walkFrom, stepOf}
-use Rattle.ndp_options.specs.Told.{kindNumber, itemTold}
+use Rattle.ndp_options.specs.Told.{optionKindNumber, itemTold}
 use Rattle.ndp_options.specs.Run.{Steps, here, on, Last, As, Run, ends, refuses, stops}
 use Rattle.ndp_options.specs.declared.NdpOptionKind.{NdpOptionKind}
 use Rattle.ndp_options.specs.declared.NdpOptionKind.the-variants.{Unknown, SourceLinkLayerAddress, TargetLinkLayerAddress, PrefixInformation, RedirectedHeader, Mtu}
@@ -25,7 +25,7 @@ use Rattle.ndp_options.proofs.Rule.{fits}
 use Rattle.ndp_options.proofs.Reasons.{reason, told-by}
 use Rattle.ndp_options.proofs.Steps.{handed-on, ended-at, refused-at, not-stopped}
 
-kind-for : (k : ℕ) → k ≤ 5 → (x : NdpOptionKind) × (kindNumber x ≡ k)
+kind-for : (k : ℕ) → k ≤ 5 → (x : NdpOptionKind) × (optionKindNumber x ≡ k)
 kind-for zero h = (Unknown, refl)
 kind-for (suc zero) h = (SourceLinkLayerAddress, refl)
 kind-for (suc (suc zero)) h = (TargetLinkLayerAddress, refl)
@@ -53,7 +53,7 @@ module _ (s : List ℕ) where
   only (stops p e) = absurd (not-stopped s _ (so-far (omega arith) p .0) e refl)
 
   -- an answer that hands out an option of a kind
-  handed-there : {k t len at to : ℕ} {is : List Item} (x : NdpOptionKind) → kindNumber x ≡ k → stepOf s at ≡ handed (item k t at len) (at + len) → Steps s (at + len) is to → Steps s at (item k t at len ∷ is) to
+  handed-there : {k t len at to : ℕ} {is : List Item} (x : NdpOptionKind) → optionKindNumber x ≡ k → stepOf s at ≡ handed (item k t at len) (at + len) → Steps s (at + len) is to → Steps s at (item k t at len ∷ is) to
   handed-there {t = t} {len = len} {at = at} {to = to} {is = is} x q e p =
       subst (λ (n : ℕ). Steps s at (item n t at len ∷ is) to) q
       (on (record { kind = x; «option_type» = record { 0 = t }; at = at; len = len }) (record { at = at + len }) (ap (λ (n : ℕ). handed (item n t at len) (at + len)) q ∙ sym e) p)

@@ -9,7 +9,7 @@ use lib.ListN.{getD}
 use Rattle.paper.proofs.Lossless.{lossless}
 use Rattle.refusal.proofs.Paper.{refusalOf, refusal-back, refusal-numbered}
 use Rattle.ndp_walk.specs.Step.{Told}
-use Rattle.ndp_options.specs.Told.{kindNumber, stepTold}
+use Rattle.ndp_options.specs.Told.{optionKindNumber, stepTold}
 use Rattle.ndp_options.specs.declared.NdpOptionKind.{NdpOptionKind}
 use Rattle.ndp_options.specs.declared.NdpOptionKind.the-variants.{Unknown, SourceLinkLayerAddress, TargetLinkLayerAddress, PrefixInformation, RedirectedHeader, Mtu}
 use Rattle.ndp_options.specs.declared.Step.{Step}
@@ -24,7 +24,7 @@ kindBack k =
     (cond (eqb k 4) RedirectedHeader
     Mtu))))
 
-pub kind-back : (k : NdpOptionKind) → kindBack (kindNumber k) ≡ k
+pub kind-back : (k : NdpOptionKind) → kindBack (optionKindNumber k) ≡ k
 kind-back Unknown = refl
 kind-back SourceLinkLayerAddress = refl
 kind-back TargetLinkLayerAddress = refl

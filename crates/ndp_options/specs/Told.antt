@@ -13,21 +13,21 @@ use Rattle.ndp_options.specs.declared.Judged.the-variants.{Over, Bad, Go
 use Rattle.ndp_options.specs.declared.Step.{Step}
 use Rattle.ndp_options.specs.declared.Step.the-variants.{Handed, End, Refused, Stopped}
 
-abbrev pub kindNumber : NdpOptionKind → ℕ
-kindNumber Unknown = 0
-kindNumber SourceLinkLayerAddress = 1
-kindNumber TargetLinkLayerAddress = 2
-kindNumber PrefixInformation = 3
-kindNumber RedirectedHeader = 4
-kindNumber Mtu = 5
+abbrev pub optionKindNumber : NdpOptionKind → ℕ
+optionKindNumber Unknown = 0
+optionKindNumber SourceLinkLayerAddress = 1
+optionKindNumber TargetLinkLayerAddress = 2
+optionKindNumber PrefixInformation = 3
+optionKindNumber RedirectedHeader = 4
+optionKindNumber Mtu = 5
 
 abbrev pub itemTold : NdpOption → Item
-itemTold o = item (kindNumber (o .kind)) (o .«option_type» .0) (o .at) (o .len)
+itemTold o = item (optionKindNumber (o .kind)) (o .«option_type» .0) (o .at) (o .len)
 
 abbrev pub judgedTold : Judged → by.Judgement
 judgedTold Over = by.Over
 judgedTold (Bad why) = by.Bad (refusal why)
-judgedTold (Good kind id len) = by.Good (kindNumber kind) (id .0) len
+judgedTold (Good kind id len) = by.Good (optionKindNumber kind) (id .0) len
 
 abbrev pub stepTold : Step → Told
 stepTold (Handed o next) = handed (itemTold o) (next .at)

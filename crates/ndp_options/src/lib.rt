@@ -3,9 +3,9 @@
 ghost use mathlib.Core.Path.{_≡_};
 ghost use lib.ListN.{drop, take};
 ghost use Rattle.ndp_walk.specs.Judge.{judge};
-ghost use Rattle.ndp_options.specs.Rule.{rule, askedOf, kindOf};
+ghost use Rattle.ndp_options.specs.Rule.{rule, askedOf, optionKind};
 ghost use Rattle.ndp_options.specs.Walk.{stepOf};
-ghost use Rattle.ndp_options.specs.Told.{kindNumber, judgedTold, stepTold};
+ghost use Rattle.ndp_options.specs.Told.{optionKindNumber, judgedTold, stepTold};
 use ndp_option_header::HeaderRead;
 use ndp_option_header::NdpOptionHeader;
 use refusal::NdpOptionType;
@@ -50,7 +50,7 @@ enum Judged {
 }
 
 fn kind_of(id: NdpOptionType) -> NdpOptionKind
-    ensures { λ r. ⌜ kindNumber r ≡ kindOf (id .0) ⌝ }
+    ensures { λ r. ⌜ optionKindNumber r ≡ optionKind (id .0) ⌝ }
 {
     let n = id.0;
     match n {

@@ -11,21 +11,21 @@ use lib.ListN.{length, getD, take, length-append, List·getD-append}
 use lib.Seq.{take-append-le}
 use borrow.Author.Tests.{eq-eqb, ne-eqb, lt-ltb, le-ltb}
 use Rattle.paper.specs.Paper.{Paper, refuses}
-use Rattle.ndp_option_header.specs.Header.{bytesOf}
+use Rattle.ndp_option_header.specs.Header.{unitBytes}
 use Rattle.ndp_walk.specs.Judge.{Ruling, Fits, Misfits, Rule, Judgement, Over, Bad, Good, ruled, judge}
 use Rattle.ndp_walk.specs.Laws.{missing, Numbered}
 
 module _ (rule : Rule) where
   -- what the type's own rule says at the head of a rest
   abbrev pub byRule : List ℕ → Judgement
-  byRule l = ruled (getD l 0 0) (bytesOf (getD l 1 0)) (rule (take (bytesOf (getD l 1 0)) l))
+  byRule l = ruled (getD l 0 0) (unitBytes (getD l 1 0)) (rule (take (unitBytes (getD l 1 0)) l))
 
 pub data Judging (rule : Rule) (l : List ℕ) : Judgement → Type 0 where
   over : length l ≡ 0 → Judging rule l Over
   short : length l ≡ 1 → Judging rule l (Bad (refuses 5 (getD l 0 0 ∷ 2 ∷ length l ∷ [])))
   empty : 1 < length l → getD l 1 0 ≡ 0 → Judging rule l (Bad (refuses 6 (getD l 0 0 ∷ [])))
-  cut : 1 < length l → 0 < getD l 1 0 → length l < bytesOf (getD l 1 0) → Judging rule l (Bad (refuses 7 (getD l 0 0 ∷ bytesOf (getD l 1 0) ∷ length l ∷ [])))
-  whole : 0 < getD l 1 0 → bytesOf (getD l 1 0) ≤ length l → Judging rule l (byRule rule l)
+  cut : 1 < length l → 0 < getD l 1 0 → length l < unitBytes (getD l 1 0) → Judging rule l (Bad (refuses 7 (getD l 0 0 ∷ unitBytes (getD l 1 0) ∷ length l ∷ [])))
+  whole : 0 < getD l 1 0 → unitBytes (getD l 1 0) ≤ length l → Judging rule l (byRule rule l)
 
 -- each case is what `judge` says
 pub known : {rule : Rule} {l : List ℕ} {v : Judgement} → Judging rule l v → judge rule l ≡ v
@@ -34,9 +34,9 @@ known {l = l} (over h) = simp (eq-eqb (length l) 0 h)
 known {l = l} (short h) = simp (ne-eqb (length l) 0 (omega arith), lt-ltb (length l) 2 (omega arith))
 known {l = l} (empty h u) = simp (ne-eqb (length l) 0 (omega arith), le-ltb (length l) 2 (omega arith), eq-eqb (getD l 1 0) 0 u)
 known {l = l} (cut h u f) =
-    simp (ne-eqb (length l) 0 (omega arith), le-ltb (length l) 2 (omega arith), ne-eqb (getD l 1 0) 0 (omega arith), lt-ltb (length l) (bytesOf (getD l 1 0)) f)
+    simp (ne-eqb (length l) 0 (omega arith), le-ltb (length l) 2 (omega arith), ne-eqb (getD l 1 0) 0 (omega arith), lt-ltb (length l) (unitBytes (getD l 1 0)) f)
 known {l = l} (whole u f) =
-    simp (ne-eqb (length l) 0 (omega arith), le-ltb (length l) 2 (omega arith), ne-eqb (getD l 1 0) 0 (omega arith), le-ltb (length l) (bytesOf (getD l 1 0)) f)
+    simp (ne-eqb (length l) 0 (omega arith), le-ltb (length l) 2 (omega arith), ne-eqb (getD l 1 0) 0 (omega arith), le-ltb (length l) (unitBytes (getD l 1 0)) f)
 
 -- one of them holds
 some-case : (rule : Rule) (l : List ℕ) → (v : Judgement) × Judging rule l v
@@ -47,7 +47,7 @@ some-case rule l =
         | no h ↦ (_, short (omega arith))
         | yes h ↦ elim (ℕ-discrete (getD l 1 0) 0) [
           | yes u ↦ (_, empty h u)
-          | no u ↦ elim (decLe (bytesOf (getD l 1 0)) (length l)) [
+          | no u ↦ elim (decLe (unitBytes (getD l 1 0)) (length l)) [
             | no f ↦ (_, cut h (omega arith) (omega arith))
             | yes f ↦ (_, whole (omega arith) f)
           ]
@@ -62,7 +62,7 @@ view rule l =
 
 -- an option at the head of a rest: its length is eight times its units, of which there are some, and no more than what is left
 pub record Fitting (rule : Rule) (l : List ℕ) (k t len : ℕ) : Type 0 where
-  pub bytes : len ≡ bytesOf (getD l 1 0)
+  pub bytes : len ≡ unitBytes (getD l 1 0)
   pub some : 0 < getD l 1 0
   pub within : len ≤ length l
   pub type : t ≡ getD l 0 0
@@ -71,9 +71,9 @@ pub record Fitting (rule : Rule) (l : List ℕ) (k t len : ℕ) : Type 0 where
 pub fitting : (rule : Rule) (l : List ℕ) {kind type len : ℕ} → judge rule l ≡ Good kind type len → Fitting rule l kind type len
 fitting rule l {kind} {type} {len} e = go (view rule l) e
   where
-    of : (r : Ruling) → rule (take (bytesOf (getD l 1 0)) l) ≡ r → 0 < getD l 1 0 → bytesOf (getD l 1 0) ≤ length l → ruled (getD l 0 0) (bytesOf (getD l 1 0)) r ≡ Good kind type len → Fitting rule l kind type len
+    of : (r : Ruling) → rule (take (unitBytes (getD l 1 0)) l) ≡ r → 0 < getD l 1 0 → unitBytes (getD l 1 0) ≤ length l → ruled (getD l 0 0) (unitBytes (getD l 1 0)) r ≡ Good kind type len → Fitting rule l kind type len
     of (Fits k) q u f e =
-        let same : bytesOf (getD l 1 0) ≡ len = cc in
+        let same : unitBytes (getD l 1 0) ≡ len = cc in
         record { bytes = sym same; some = u; within = omega arith; type = cc; kind = rw (← same) (q ∙ cc) }
     of (Misfits why) q u f e = absurd (let z : _≡_ {A = ℕ} 0 1 = cc in omega arith)
 
@@ -82,7 +82,7 @@ fitting rule l {kind} {type} {len} e = go (view rule l) e
     go (short h) e = absurd (let z : _≡_ {A = ℕ} 0 1 = cc in omega arith)
     go (empty h u) e = absurd (let z : _≡_ {A = ℕ} 0 1 = cc in omega arith)
     go (cut h u f) e = absurd (let z : _≡_ {A = ℕ} 0 1 = cc in omega arith)
-    go (whole u f) e = of (rule (take (bytesOf (getD l 1 0)) l)) refl u f e
+    go (whole u f) e = of (rule (take (unitBytes (getD l 1 0)) l)) refl u f e
 
 -- a refusal has a number, where the rule's have
 pub refusal-numbered : (rule : Rule) → Numbered rule → (l : List ℕ) {why : Paper} → judge rule l ≡ Bad why → 0 < why .number
@@ -91,22 +91,22 @@ refusal-numbered rule n l {why} e = go (view rule l) e
     is : {p : Paper} → 0 < p .number → Bad p ≡ Bad why → 0 < why .number
     is {p} h q = let same : p ≡ why = cc in rw (← same) h
 
-    of : (r : Ruling) → rule (take (bytesOf (getD l 1 0)) l) ≡ r → ruled (getD l 0 0) (bytesOf (getD l 1 0)) r ≡ Bad why → 0 < why .number
+    of : (r : Ruling) → rule (take (unitBytes (getD l 1 0)) l) ≡ r → ruled (getD l 0 0) (unitBytes (getD l 1 0)) r ≡ Bad why → 0 < why .number
     of (Fits k) q e = absurd (let z : _≡_ {A = ℕ} 0 1 = cc in omega arith)
-    of (Misfits p) q e = is (n (take (bytesOf (getD l 1 0)) l) p q) e
+    of (Misfits p) q e = is (n (take (unitBytes (getD l 1 0)) l) p q) e
 
     go : {v : Judgement} → Judging rule l v → v ≡ Bad why → 0 < why .number
     go (over h) e = absurd (let z : _≡_ {A = ℕ} 0 1 = cc in omega arith)
     go (short h) e = is (lit≤ tt) e
     go (empty h u) e = is (lit≤ tt) e
     go (cut h u f) e = is (lit≤ tt) e
-    go (whole u f) e = of (rule (take (bytesOf (getD l 1 0)) l)) refl e
+    go (whole u f) e = of (rule (take (unitBytes (getD l 1 0)) l)) refl e
 
 -- only of no bytes is nothing said
 pub at-end : (rule : Rule) (l : List ℕ) → judge rule l ≡ Over → length l ≡ 0
 at-end rule l e = go (view rule l) e
   where
-    of : (r : Ruling) → ruled (getD l 0 0) (bytesOf (getD l 1 0)) r ≡ Over → length l ≡ 0
+    of : (r : Ruling) → ruled (getD l 0 0) (unitBytes (getD l 1 0)) r ≡ Over → length l ≡ 0
     of (Fits k) e = cc
     of (Misfits why) e = cc
 
@@ -115,7 +115,7 @@ at-end rule l e = go (view rule l) e
     go (short h) e = cc
     go (empty h u) e = cc
     go (cut h u f) e = cc
-    go (whole u f) e = of (rule (take (bytesOf (getD l 1 0)) l)) e
+    go (whole u f) e = of (rule (take (unitBytes (getD l 1 0)) l)) e
 
 -- whether a judgement stays when more bytes follow
 abbrev pub settled : Judgement → Bool
@@ -142,4 +142,4 @@ longer rule l b s = go (view rule l) s
     go (whole u f) s =
         let h : 1 < length l = omega arith in
         known {l = l ++ b} (whole (omega (arith, second h)) (omega (arith, second h, length-append l b)))
-        ∙ rw (first h, second h, take-append-le (bytesOf (getD l 1 0)) l b f)
+        ∙ rw (first h, second h, take-append-le (unitBytes (getD l 1 0)) l b f)

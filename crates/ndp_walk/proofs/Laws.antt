@@ -10,7 +10,7 @@ use lib.ListN.{length, getD, take, drop, length-append, length-drop, List·getD-
 use lib.Seq.{drop-length, drop-append-le, take-append-le, take-at, drop-at}
 use Rattle.paper.specs.Each.{Each}
 use Rattle.paper.specs.Paper.{Paper}
-use Rattle.ndp_option_header.specs.Header.{bytesOf}
+use Rattle.ndp_option_header.specs.Header.{unitBytes}
 use Rattle.ndp_walk.specs.Judge.{Rule, Fits, Bad, Good, judge}
 use Rattle.ndp_walk.specs.Walk.{Item, Ending, Clean, RefusedAt, Walk, then, walk, walkFrom, shift}
 use Rattle.ndp_walk.specs.Laws.{Touch, endPlace, total, bytesIn, Of, kindIn, Whole, concat, placed, missing, joinedBy, joined}
@@ -66,12 +66,12 @@ module _ (rule : Rule) (s : List ℕ) where
 module _ (rule : Rule) where
   head : (o b : List ℕ) → Whole rule o → judge rule (o ++ b) ≡ Good (kindIn (rule o)) (getD o 0 0) (length o)
   head o b h =
-      let len : length o ≡ bytesOf (getD o 1 0) = h .1 in
+      let len : length o ≡ unitBytes (getD o 1 0) = h .1 in
       let own : rule o ≡ Fits (kindIn (rule o)) = h .2 in
       let first : getD (o ++ b) 0 0 ≡ getD o 0 0 = List·getD-append o b 0 0 (omega arith) in
       let second : getD (o ++ b) 1 0 ≡ getD o 1 0 = List·getD-append o b 0 1 (omega arith) in
       known {l = o ++ b} (whole (omega arith) (omega (arith, length-append o b)))
-      ∙ rw (first, second, take-at o b (bytesOf (getD o 1 0)) len, own, ← len)
+      ∙ rw (first, second, take-at o b (unitBytes (getD o 1 0)) len, own, ← len)
 
   laid : (at : ℕ) (os : List (List ℕ)) → Each (Whole rule) os → walkFrom rule at (concat os) ≡ record { items = placed rule at os; ending = Clean }
   laid at [] h = walk-over rule at [] (known {l = []} (nothing refl))

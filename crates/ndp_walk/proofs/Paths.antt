@@ -8,7 +8,7 @@ use native.Mathlib.Omega.{arith}
 use lib.ListN.{length, drop, length-drop, take-append-drop}
 use lib.Seq.{getD-drop, drop-drop, drop-append-le}
 use Rattle.paper.specs.Each.{Each}
-use Rattle.ndp_option_header.specs.Header.{bytesOf}
+use Rattle.ndp_option_header.specs.Header.{unitBytes}
 use Rattle.ndp_walk.specs.Judge.{Rule}
 use Rattle.ndp_walk.specs.Walk.{Item, Ending}
 use Rattle.ndp_walk.specs.Laws.{Touch, endPlace, total, bytesIn, Of, concat}
@@ -54,7 +54,7 @@ module _ (rule : Rule) where
           record {
             within = omega (arith, length-drop at s);
             type = f .type ∙ rw (h .0) (getD-drop at s 0 0 ∙ rw (add-zero at));
-            len = f .bytes ∙ ap bytesOf (rw (h .0) (getD-drop at s 1 0));
+            len = f .bytes ∙ ap unitBytes (rw (h .0) (getD-drop at s 1 0));
             least = omega arith;
             kind = rw (← (h .0)) (f .kind);
           },

@@ -6,7 +6,7 @@ use mathlib.Core.List.{List, [], _∷_}
 use lib.Dec.{ltb, eqb}
 use lib.ListN.{length, getD, take}
 use Rattle.paper.specs.Paper.{Paper, refuses}
-use Rattle.ndp_option_header.specs.Header.{bytesOf}
+use Rattle.ndp_option_header.specs.Header.{unitBytes}
 
 -- what a type's own rule says of an option: its kind, or the refusal
 pub data Ruling : Type 0 where
@@ -33,5 +33,5 @@ judge rule l =
     cond (eqb (length l) 0) Over
     (cond (ltb (length l) 2) (Bad (refuses 5 (getD l 0 0 ∷ 2 ∷ length l ∷ [])))
     (cond (eqb (getD l 1 0) 0) (Bad (refuses 6 (getD l 0 0 ∷ [])))
-    (cond (ltb (length l) (bytesOf (getD l 1 0))) (Bad (refuses 7 (getD l 0 0 ∷ bytesOf (getD l 1 0) ∷ length l ∷ [])))
-    (ruled (getD l 0 0) (bytesOf (getD l 1 0)) (rule (take (bytesOf (getD l 1 0)) l))))))
+    (cond (ltb (length l) (unitBytes (getD l 1 0))) (Bad (refuses 7 (getD l 0 0 ∷ unitBytes (getD l 1 0) ∷ length l ∷ [])))
+    (ruled (getD l 0 0) (unitBytes (getD l 1 0)) (rule (take (unitBytes (getD l 1 0)) l))))))

@@ -7,7 +7,7 @@ use mathlib.Core.List.{List, [], _∷_, _++_}
 use lib.Dec.{eqb}
 use lib.ListN.{length, getD, take, drop}
 use Rattle.paper.specs.Paper.{Paper}
-use Rattle.ndp_option_header.specs.Header.{bytesOf}
+use Rattle.ndp_option_header.specs.Header.{unitBytes}
 use Rattle.ndp_walk.specs.Judge.{Rule, Ruling, Fits, Misfits}
 use Rattle.ndp_walk.specs.Walk.{Item, Ending, Clean, RefusedAt, Walk, item, then, walk, shift}
 
@@ -34,7 +34,7 @@ bytesIn s i = take (i .len) (drop (i .at) s)
 pub record Of (rule : Rule) (s : List ℕ) (i : Item) : Type 0 where
   pub within : i .at + i .len ≤ length s
   pub type : i .type ≡ getD s (i .at) 0
-  pub len : i .len ≡ bytesOf (getD s (i .at + 1) 0)
+  pub len : i .len ≡ unitBytes (getD s (i .at + 1) 0)
   pub least : 8 ≤ i .len
   pub kind : rule (bytesIn s i) ≡ Fits (i .kind)
 
@@ -49,7 +49,7 @@ kindIn (Misfits why) = 0
 
 -- bytes that are one whole option
 abbrev pub Whole : Rule → List ℕ → Type 0
-Whole rule o = (0 < getD o 1 0) × (length o ≡ bytesOf (getD o 1 0)) × (rule o ≡ Fits (kindIn (rule o)))
+Whole rule o = (0 < getD o 1 0) × (length o ≡ unitBytes (getD o 1 0)) × (rule o ≡ Fits (kindIn (rule o)))
 
 -- one after the other
 abbrev pub concat : List (List ℕ) → List ℕ

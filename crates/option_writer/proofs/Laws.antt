@@ -15,7 +15,7 @@ use Rattle.wire.proofs.Laws.{join32}
 use Rattle.ndp_walk.specs.Judge.{Fits}
 use Rattle.ndp_walk.specs.Walk.{Clean, Walk, item}
 use Rattle.ndp_walk.specs.Laws.{kindIn}
-use Rattle.ndp_option_header.specs.Header.{bytesOf as unitBytes}
+use Rattle.ndp_option_header.specs.Header.{unitBytes}
 use Rattle.ndp_option_read.specs.Rule.{sizedOf, partFrom}
 use lib.Dec.{lit<}
 use Rattle.ndp_options.specs.Rule.{rule}
@@ -24,7 +24,7 @@ use Rattle.ndp_options.proofs.Laws.{options-clean}
 use Rattle.ndp_option_read.proofs.Rules.{exactly-accepts}
 use Rattle.ndp_option.specs.declared.link_layer_address_option.LinkLayerAddressOption.{LinkLayerAddressOption}
 use Rattle.ndp_option.specs.declared.link_layer_address_option.LinkLayerAddressOption.the-variants.{Source, Target}
-use Rattle.ndp_option.specs.LinkLayer.{typeOf}
+use Rattle.ndp_option.specs.LinkLayer.{linkLayerType}
 use Rattle.ndp_option.specs.Mtu.{mtuOf}
 use Rattle.prefix_information.specs.declared.PrefixInformation.{PrefixInformation}
 use Rattle.prefix_information.specs.Prefix.{bytesOf}
@@ -73,7 +73,7 @@ pub mtu-option : (mtu : ℕ) → Option 5 (mtuBytes mtu)
 unfolding rule
 mtu-option mtu = record { some = lit< tt; long = refl; fits = refl }
 
-pub link-layer-option : (whose : LinkLayerAddressOption) (address : List ℕ) → length address ≡ 6 → Option (typeOf whose) (linkLayerBytes whose address)
+pub link-layer-option : (whose : LinkLayerAddressOption) (address : List ℕ) → length address ≡ 6 → Option (linkLayerType whose) (linkLayerBytes whose address)
 unfolding rule
 link-layer-option Source address h = record { some = lit< tt; long = omega arith; fits = rw h }
 link-layer-option Target address h = record { some = lit< tt; long = omega arith; fits = rw h }
@@ -83,7 +83,7 @@ pub mtu-read : (mtu : ℕ) → mtu < 4294967296 → mtuOf (mtuBytes mtu) ≡ giv
 unfolding mtuOf
 mtu-read mtu h = simp (exactly-accepts 5 1 (mtuBytes mtu) (record { size = refl; kind = refl; says = refl }), join32 mtu h)
 
-pub link-layer-read : (whose : LinkLayerAddressOption) (address : List ℕ) → length address ≡ 6 → let o = linkLayerBytes whose address in partFrom 2 (sizedOf (typeOf whose) o) o ≡ address
+pub link-layer-read : (whose : LinkLayerAddressOption) (address : List ℕ) → length address ≡ 6 → let o = linkLayerBytes whose address in partFrom 2 (sizedOf (linkLayerType whose) o) o ≡ address
 unfolding sizedOf
 link-layer-read Source address h = rw h
 link-layer-read Target address h = rw h

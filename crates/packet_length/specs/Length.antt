@@ -21,6 +21,6 @@ fits n = not (ltb n 8) && not (ltb limit n)
 unfoldable pub sized : ℕ → Paper → Paper
 sized n answer = cond (ltb n 8) (refuses 1 (8 ∷ n ∷ [])) (cond (ltb limit n) (refuses 2 (limit ∷ n ∷ [])) answer)
 
-abbrev pub told : PacketLength → Paper
-told Fits = gives []
-told (Refused r) = refusal r
+abbrev pub lengthTold : PacketLength → Paper
+lengthTold Fits = gives []
+lengthTold (Refused r) = refusal r

@@ -2,7 +2,7 @@
 ghost use mathlib.Core.Path.{_≡_};
 ghost use mathlib.Core.List.{[]};
 ghost use Rattle.paper.specs.Paper.{gives};
-ghost use Rattle.packet_length.specs.Length.{sized, told};
+ghost use Rattle.packet_length.specs.Length.{sized, lengthTold};
 use refusal::Refusal;
 
 // The shortest packet: its head.
@@ -17,7 +17,7 @@ pub enum PacketLength {
 }
 
 pub fn check_len(length: usize) -> PacketLength
-    ensures { λ r. ⌜ told r ≡ sized length (gives []) ⌝ }
+    ensures { λ r. ⌜ lengthTold r ≡ sized length (gives []) ⌝ }
 {
     if length < MIN_LEN {
         return PacketLength::Refused(Refusal::ShortPacket {

@@ -3,10 +3,10 @@
 use mathlib.Core.Path.{_≡_}
 use Rattle.paper.proofs.Lossless.{lossless}
 use Rattle.ndp_option_read.proofs.Paper.{readBack, read-back}
-use Rattle.prefix_information.specs.Prefix.{Told, prefixTold}
+use Rattle.prefix_information.specs.Prefix.{PrefixTold, prefixTold}
 use Rattle.prefix_information.specs.declared.PrefixInformationRead.{PrefixInformationRead}
 
-abbrev toldBack : Told → PrefixInformationRead
+abbrev toldBack : PrefixTold → PrefixInformationRead
 toldBack t = record { answer = readBack (t .paper); information = t .information }
 
 told-back : (r : PrefixInformationRead) → toldBack (prefixTold r) ≡ r

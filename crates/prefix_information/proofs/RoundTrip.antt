@@ -14,13 +14,13 @@ use Rattle.wire.specs.Bits.{bit, clear}
 use Rattle.wire.proofs.Laws.{join32, split32, read-two, two-flags, clear-all, bit-clear}
 use Rattle.ndp_option_read.proofs.Rules.{Exact, exactly-accepts, exactly-means}
 use Rattle.prefix_information.specs.declared.PrefixInformation.{PrefixInformation}
-use Rattle.prefix_information.specs.Prefix.{informationAt, bytesOf, told, prefixOf}
+use Rattle.prefix_information.specs.Prefix.{informationAt, bytesOf, toldWith, prefixOf}
 use Rattle.prefix_information.specs.Reserved.{reserved, clearedFrom}
 use Rattle.prefix_information.proofs.Lists.{one-by-one}
 
 -- the premises say that the lifetimes are of 32 bits and the prefix of 16 bytes, as the record's types have it
 module _ (i : PrefixInformation) (valid : i .«valid_lifetime» < 4294967296) (preferred : i .«preferred_lifetime» < 4294967296) (sixteen : length (i .prefix) ≡ 16) where
-  pub write-read : prefixOf (bytesOf i) ≡ told (gives []) i
+  pub write-read : prefixOf (bytesOf i) ≡ toldWith (gives []) i
   unfolding prefixOf
   write-read =
       let flags = read-two (i .«on_link») (i .«autonomous_address_configuration») in

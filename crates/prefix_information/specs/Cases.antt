@@ -7,7 +7,7 @@ use mathlib.Core.List.{List, [], _∷_, _++_}
 use lib.ListN.{replicate}
 use Rattle.paper.specs.Paper.{refuses, gives}
 use Rattle.prefix_information.specs.declared.PrefixInformation.{PrefixInformation}
-use Rattle.prefix_information.specs.Prefix.{Told, told, prefixOf, nothing, informationAt, bytesOf}
+use Rattle.prefix_information.specs.Prefix.{PrefixTold, toldWith, prefixOf, noInformation, informationAt, bytesOf}
 
 -- an option with this header, prefix length and flags; what follows is P9's
 abbrev option : ℕ → ℕ → ℕ → ℕ → List ℕ
@@ -28,7 +28,7 @@ information length =
 
 pub data Case : Type 0 where
   -- these bytes are answered so
-  reads : List ℕ → Told → Case
+  reads : List ℕ → PrefixTold → Case
   -- what these bytes say is written so
   writes : List ℕ → List ℕ → Case
 
@@ -39,15 +39,15 @@ Claim (writes s t) = bytesOf (informationAt s) ≡ t
 abbrev pub table : List Case
 table =
     -- P8
-    reads (3 ∷ 3 ∷ replicate 22 0) (told (refuses 5 (3 ∷ 32 ∷ 24 ∷ [])) nothing)
+    reads (3 ∷ 3 ∷ replicate 22 0) (toldWith (refuses 5 (3 ∷ 32 ∷ 24 ∷ [])) noInformation)
     -- P9
-    ∷ reads (option 3 4 64 192) (told (gives []) (information 64))
+    ∷ reads (option 3 4 64 192) (toldWith (gives []) (information 64))
     -- P10
-    ∷ reads (option 3 4 64 255) (told (gives []) (information 64))
+    ∷ reads (option 3 4 64 255) (toldWith (gives []) (information 64))
     ∷ writes (option 3 4 64 255) (option 3 4 64 192)
     -- a prefix length above 128
-    ∷ reads (option 3 4 200 192) (told (gives []) (information 200))
+    ∷ reads (option 3 4 200 192) (toldWith (gives []) (information 200))
     -- 32 bytes with another header
-    ∷ reads (option 4 4 64 192) (told (refuses 8 (3 ∷ 4 ∷ 4 ∷ 4 ∷ [])) nothing)
-    ∷ reads (option 3 5 64 192) (told (refuses 8 (3 ∷ 3 ∷ 4 ∷ 5 ∷ [])) nothing)
+    ∷ reads (option 4 4 64 192) (toldWith (refuses 8 (3 ∷ 4 ∷ 4 ∷ 4 ∷ [])) noInformation)
+    ∷ reads (option 3 5 64 192) (toldWith (refuses 8 (3 ∷ 3 ∷ 4 ∷ 5 ∷ [])) noInformation)
     ∷ []

@@ -28,8 +28,8 @@ bytesOf i =
     3 ∷ 4 ∷ i .«prefix_length» ∷ (flagOf (i .«on_link») 128 + flagOf (i .«autonomous_address_configuration») 64)
     ∷ bytes32 (i .«valid_lifetime») ++ bytes32 (i .«preferred_lifetime») ++ replicate 4 0 ++ i .prefix
 
-abbrev pub nothing : PrefixInformation
-nothing =
+abbrev pub noInformation : PrefixInformation
+noInformation =
     record {
       «prefix_length» = 0;
       «on_link» = false;
@@ -40,24 +40,24 @@ nothing =
     }
 
 -- an answer: the number and values, and what the option says beside them
-pub record Told : Type 0 where
+pub record PrefixTold : Type 0 where
   pub paper : Paper
   pub information : PrefixInformation
 
-abbrev pub told : Paper → PrefixInformation → Told
-told p i = record { paper = p; information = i }
+abbrev pub toldWith : Paper → PrefixInformation → PrefixTold
+toldWith p i = record { paper = p; information = i }
 
-abbrev pub prefixTold : PrefixInformationRead → Told
-prefixTold r = told (readTold (r .answer)) (r .information)
+abbrev pub prefixTold : PrefixInformationRead → PrefixTold
+prefixTold r = toldWith (readTold (r .answer)) (r .information)
 
 -- by the rule's answer: what the bytes say, and nothing where it refuses
-abbrev pub prefixBy : Paper → List ℕ → Told
-prefixBy p s = told p (ifRead p (informationAt s) nothing)
+abbrev pub prefixBy : Paper → List ℕ → PrefixTold
+prefixBy p s = toldWith p (ifRead p (informationAt s) noInformation)
 
 -- 32 bytes: the header is judged alone
-unfoldable pub prefixOf32 : List ℕ → Told
+unfoldable pub prefixOf32 : List ℕ → PrefixTold
 prefixOf32 s = prefixBy (headed 3 4 s) s
 
 -- any bytes: first their number
-unfoldable pub prefixOf : List ℕ → Told
+unfoldable pub prefixOf : List ℕ → PrefixTold
 prefixOf s = prefixBy (exactlyOf 3 4 s) s

@@ -21,7 +21,7 @@ use Rattle.ndp_options.specs.Walk.{walk}
 use Rattle.ndp_option_list.specs.Whole.{occurs}
 use Rattle.receive.specs.Reasons.{reason, firstOf, None, First}
 use Rattle.receive.specs.Rules.{ownOf}
-use Rattle.receive.specs.Receive.{optionsOf, isClean, isSound, optionReasons, reasons, reasonOf, accepted, notReceived, answerBy, receiveOf}
+use Rattle.receive.specs.Receive.{packetOptions, isClean, isSound, optionReasons, reasons, reasonOf, accepted, notReceived, answerBy, receiveOf}
 use Rattle.receive.specs.Given.{givenFor, among}
 use Rattle.receive.proofs.First.{none-first, first-none, named, names, first-numbered, first-among, without}
 use Rattle.receive.proofs.Answers.{answer-0, answer-n, dispatch-low, numbered}
@@ -47,7 +47,7 @@ module _ (hops : ℕ) (source destination packet : List ℕ) where
   unfolding reasons
   not-lacking b = by (isNdp (getD packet 0 0)) refl
     where
-      by : (x : Bool) → isNdp (getD packet 0 0) ≡ x → None (cond x (reason 1 (not (eqb hops 255)) ∷ reason 2 (not (isSound source destination packet)) ∷ reason 3 (not (eqb (getD packet 1 0) 0)) ∷ reason 4 (eqb (byBytes packet .number) 4) ∷ optionReasons (getD packet 0 0) (optionsOf packet) source destination packet) (reason 2 (not (isSound source destination packet)) ∷ [])) → fixedLen (kindAt packet) ≤ length packet - 8
+      by : (x : Bool) → isNdp (getD packet 0 0) ≡ x → None (cond x (reason 1 (not (eqb hops 255)) ∷ reason 2 (not (isSound source destination packet)) ∷ reason 3 (not (eqb (getD packet 1 0) 0)) ∷ reason 4 (eqb (byBytes packet .number) 4) ∷ optionReasons (getD packet 0 0) (packetOptions packet) source destination packet) (reason 2 (not (isSound source destination packet)) ∷ [])) → fixedLen (kindAt packet) ≤ length packet - 8
       by true e h =
           not-short 8 (kindAt packet) packet (byBytes packet) (λ z. eqb-false (byBytes packet .number) 4 (h .1 .1 .1 .0) z) (sym (fitting packet b)) .0
       by false e h = omega (arith, other-kind packet e)
@@ -76,11 +76,11 @@ module _ (hops : ℕ) (source destination packet : List ℕ) where
   )
 
   -- The options of an accepted packet walk clean, whatever its type: a type that has none has an empty list.
-  pub clean-options : None (reasons hops source destination packet) → walk (optionsOf packet) .ending ≡ Clean
+  pub clean-options : None (reasons hops source destination packet) → walk (packetOptions packet) .ending ≡ Clean
   unfolding reasons optionReasons walkFrom walkOn
   clean-options = by (isNdp (getD packet 0 0)) refl
     where
-      by : (x : Bool) → isNdp (getD packet 0 0) ≡ x → None (cond x (reason 1 (not (eqb hops 255)) ∷ reason 2 (not (isSound source destination packet)) ∷ reason 3 (not (eqb (getD packet 1 0) 0)) ∷ reason 4 (eqb (byBytes packet .number) 4) ∷ optionReasons (getD packet 0 0) (optionsOf packet) source destination packet) (reason 2 (not (isSound source destination packet)) ∷ [])) → walk (optionsOf packet) .ending ≡ Clean
+      by : (x : Bool) → isNdp (getD packet 0 0) ≡ x → None (cond x (reason 1 (not (eqb hops 255)) ∷ reason 2 (not (isSound source destination packet)) ∷ reason 3 (not (eqb (getD packet 1 0) 0)) ∷ reason 4 (eqb (byBytes packet .number) 4) ∷ optionReasons (getD packet 0 0) (packetOptions packet) source destination packet) (reason 2 (not (isSound source destination packet)) ∷ [])) → walk (packetOptions packet) .ending ≡ Clean
       by true e h = is-clean _ (not-false _ (h .1 .1 .1 .1 .0))
       by false e h = simp (no-options packet e, drop-length)
 
@@ -116,8 +116,8 @@ module _ (hops : ℕ) (source destination packet : List ℕ) where
       → isSound source destination packet ≡ true
       → getD packet 1 0 ≡ 0
       → 8 + fixedLen (getD packet 0 0) ≤ length packet
-      → walk (optionsOf packet) .ending ≡ Clean
-      → receiveOf hops source destination packet ≡ answerBy packet (firstOf (ownOf (getD packet 0 0) source destination packet (occurs 1 (walk (optionsOf packet) .items))))
+      → walk (packetOptions packet) .ending ≡ Clean
+      → receiveOf hops source destination packet ≡ answerBy packet (firstOf (ownOf (getD packet 0 0) source destination packet (occurs 1 (walk (packetOptions packet) .items))))
   unfolding receiveOf reasons optionReasons firstOf
   own-alone b n h v c l w =
       let there : fixedLen (kindAt packet) ≤ length packet - 8 = rw (ndp-kind packet n c) (omega (arith, l)) in

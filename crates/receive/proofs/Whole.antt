@@ -25,8 +25,8 @@ use Rattle.ndp_options.proofs.Laws.{all-bytes}
 use Rattle.receive.specs.declared.Received.{Received}
 use Rattle.receive.specs.declared.Received.the-variants.{Accepted}
 use Rattle.receive.specs.Receive.{isClean, optionReasons, reasons, receiveOf}
-use Rattle.receive.specs.Told.{told}
-use Rattle.receive.specs.Whole.{isWhole, optionsFrom, Whole}
+use Rattle.receive.specs.Told.{receivedTold}
+use Rattle.receive.specs.Whole.{isWhole, optionsFrom, WholePacket}
 use Rattle.icmpv6_payload_slice.specs.declared.Icmpv6PayloadSlice.{Icmpv6PayloadSlice}
 use Rattle.icmpv6_payload_slice.specs.declared.PayloadRead.the-variants.{Payload}
 use Rattle.icmpv6_payload_slice.specs.Dispatch.{optionsAt, kindAt}
@@ -46,26 +46,26 @@ whole-steps s clean is at p x e = let h = so-far s (omega arith) p in by (h .0) 
 
 -- what is handed on of an accepted packet is what the dispatch says of it
 pub accepted-opened : (hops : ℕ) (source destination packet : List ℕ) (r : Received) {m : Icmpv6PayloadSlice}
-    → told r ≡ receiveOf hops source destination packet
+    → receivedTold r ≡ receiveOf hops source destination packet
     → r ≡ Accepted m
     → Opened packet m
 accepted-opened hops source destination packet r {m} e a =
-    let number : receiveOf hops source destination packet .number ≡ 0 = ap (λ (p : Paper). p .number) (sym e ∙ ap told a) in
+    let number : receiveOf hops source destination packet .number ≡ 0 = ap (λ (p : Paper). p .number) (sym e ∙ ap receivedTold a) in
     let h = accepting hops source destination packet number in
     let is = accepted-exactly hops source destination packet .1 h in
     let there = not-lacking hops source destination packet (h .0) (h .1) in
-    opened packet (h .0) (Payload m) (sym (ap told a) ∙ e ∙ is ∙ sym (opened-whole hops source destination packet (h .0) there)) refl
+    opened packet (h .0) (Payload m) (sym (ap receivedTold a) ∙ e ∙ is ∙ sym (opened-whole hops source destination packet (h .0) there)) refl
 
 -- An accepted packet of types 133 to 137 is a structured message, and its option list, at the place that was handed on, is whole.
 pub accepted-whole : (hops : ℕ) (source destination packet : List ℕ) (r : Received) {m : Icmpv6PayloadSlice}
-    → told r ≡ receiveOf hops source destination packet
+    → receivedTold r ≡ receiveOf hops source destination packet
     → r ≡ Accepted m
     → isNdp (getD packet 0 0) ≡ true
-    → Whole packet m
+    → WholePacket packet m
 unfolding decodeOf reasons optionReasons
 accepted-whole hops source destination packet r {m} e a n =
     let o = accepted-opened hops source destination packet r e a in
-    let number : receiveOf hops source destination packet .number ≡ 0 = ap (λ (p : Paper). p .number) (sym e ∙ ap told a) in
+    let number : receiveOf hops source destination packet .number ≡ 0 = ap (λ (p : Paper). p .number) (sym e ∙ ap receivedTold a) in
     let h = accepting hops source destination packet number in
     let rs = rw n at (h .1) in
     let code = eqb-true (getD packet 1 0) 0 (not-false _ (rs .1 .1 .0)) in

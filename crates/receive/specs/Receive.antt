@@ -19,8 +19,8 @@ use Rattle.receive.specs.Reasons.{Reason, reason, firstOf}
 use Rattle.receive.specs.Rules.{ownOf}
 
 -- the option bytes of a packet, as the dispatch places them
-abbrev pub optionsOf : List ℕ → List ℕ
-optionsOf packet = optionsIn 8 (kindAt packet) packet
+abbrev pub packetOptions : List ℕ → List ℕ
+packetOptions packet = optionsIn 8 (kindAt packet) packet
 
 abbrev pub isClean : Ending → Bool
 isClean Clean = true
@@ -44,7 +44,7 @@ reasons hops source destination packet =
     ∷ reason 2 (not (isSound source destination packet))
     ∷ reason 3 (not (eqb (getD packet 1 0) 0))
     ∷ reason 4 (eqb (byBytes packet .number) 4)
-    ∷ optionReasons type (optionsOf packet) source destination packet)
+    ∷ optionReasons type (packetOptions packet) source destination packet)
     (reason 2 (not (isSound source destination packet)) ∷ [])
 
 -- the reason, 0 where there is none: of a length that is refused nothing is tested

@@ -17,7 +17,7 @@ use Rattle.ndp_options.specs.Run.{Steps, Last, As, Run}
 use Rattle.ndp_options.specs.declared.Step.{Step}
 use Rattle.ndp_options.specs.declared.Step.the-variants.{Handed, End, Refused, Stopped}
 use Rattle.icmpv6_payload_slice.specs.declared.Icmpv6PayloadSlice.{Icmpv6PayloadSlice}
-use Rattle.icmpv6_payload_slice.specs.Dispatch.{kindNumber}
+use Rattle.icmpv6_payload_slice.specs.Dispatch.{payloadKindNumber}
 
 -- an option, or the end; no refusal, and no walk that was stopped
 abbrev pub isWhole : Step → Bool
@@ -30,11 +30,11 @@ isWhole Stopped = false
 abbrev pub optionsFrom : Icmpv6PayloadSlice → List ℕ → List ℕ
 optionsFrom message packet = drop (message .«options_at») packet
 
-pub record Whole (packet : List ℕ) (message : Icmpv6PayloadSlice) : Type 0 where
+pub record WholePacket (packet : List ℕ) (message : Icmpv6PayloadSlice) : Type 0 where
   -- the head decodes to the kind of its type: behind the checksum stands the type, where an Unknown has 0
   pub kind : let type = getD packet 0 0 in decodeOf packet ≡ gives (checksumAt packet ∷ type ∷ fieldsOf type 0 (fieldsAt packet))
   -- and so does what was handed on
-  pub same : kindNumber (message .kind) ≡ getD packet 0 0
+  pub same : payloadKindNumber (message .kind) ≡ getD packet 0 0
   -- the fixed part is there, and the options begin behind it
   pub fixed : message .«options_at» ≡ 8 + fixedLen (getD packet 0 0)
   pub there : message .«options_at» ≤ length packet

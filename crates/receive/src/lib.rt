@@ -7,11 +7,11 @@ ghost use lib.Dec.{eqb};
 ghost use lib.ListN.{length, getD, drop};
 ghost use Rattle.packet_length.specs.Length.{fits};
 ghost use Rattle.message_table.specs.Table.{isNdp};
-ghost use Rattle.icmpv6_payload_slice.specs.Dispatch.{kindNumber, readTold, byBytes};
+ghost use Rattle.icmpv6_payload_slice.specs.Dispatch.{payloadKindNumber, payloadTold, byBytes};
 ghost use Rattle.receive.specs.Reasons.{firstOf};
 ghost use Rattle.receive.specs.Rules.{routerSolicitation, routerAdvertisement, neighborSolicitation, neighborAdvertisement, redirect, ownOf};
 ghost use Rattle.receive.specs.Receive.{optionReasons, reasons, isSound, reasonOf, receiveOf};
-ghost use Rattle.receive.specs.Told.{told, judgedTold, judgedOf};
+ghost use Rattle.receive.specs.Told.{receivedTold, packetJudgedTold, judgedOf};
 use addresses::is_link_local;
 use addresses::is_multicast;
 use addresses::is_same;
@@ -118,7 +118,7 @@ fn own_reason(
     listed: bool,
 ) -> u8
     requires { ⌜ (8 ≤ length (now packet)) × (message .«payload_at» ≡ 8) ⌝ }
-    ensures { λ r. ⌜ r ≡ firstOf (ownOf (kindNumber (message .kind)) (now (source .entry)) (now (destination .entry)) (now (packet .entry)) listed) ⌝ }
+    ensures { λ r. ⌜ r ≡ firstOf (ownOf (payloadKindNumber (message .kind)) (now (source .entry)) (now (destination .entry)) (now (packet .entry)) listed) ⌝ }
 {
     let kind = message.kind;
     match kind.type_u8() {
@@ -143,7 +143,7 @@ fn option_reason(
     destination: &[u8; 16],
 ) -> u8
     requires { ⌜ (8 ≤ length (now packet)) × (message .«payload_at» ≡ 8) × (message .«options_at» ≤ length (now packet)) ⌝ }
-    ensures { λ r. ⌜ r ≡ firstOf (optionReasons (kindNumber (message .kind)) (drop (message .«options_at») (now (packet .entry))) (now (source .entry)) (now (destination .entry)) (now (packet .entry))) ⌝ }
+    ensures { λ r. ⌜ r ≡ firstOf (optionReasons (payloadKindNumber (message .kind)) (drop (message .«options_at») (now (packet .entry))) (now (source .entry)) (now (destination .entry)) (now (packet .entry))) ⌝ }
 {
     let at = message.options_at;
     match has_type(&packet[at..], NdpOptionType(1)) {
@@ -163,7 +163,7 @@ fn first_reason(
     destination: &[u8; 16],
 ) -> u8
     requires { ⌜ (8 ≤ length (now packet)) × (length (now packet) ≤ 4294967295) ⌝ }
-    requires { ⌜ (readTold opened ≡ byBytes (now packet)) × (valid ≡ isSound (now source) (now destination) (now packet)) ⌝ }
+    requires { ⌜ (payloadTold opened ≡ byBytes (now packet)) × (valid ≡ isSound (now source) (now destination) (now packet)) ⌝ }
     ensures { λ r. ⌜ r ≡ firstOf (reasons «hop_limit» (now (source .entry)) (now (destination .entry)) (now (packet .entry))) ⌝ }
 {
     if !is_ndp(packet[0]) {
@@ -193,7 +193,7 @@ fn reason_of(
     source: &[u8; 16],
     destination: &[u8; 16],
 ) -> u8
-    requires { ⌜ (readTold opened ≡ byBytes (now packet)) × (valid ≡ isSound (now source) (now destination) (now packet)) ⌝ }
+    requires { ⌜ (payloadTold opened ≡ byBytes (now packet)) × (valid ≡ isSound (now source) (now destination) (now packet)) ⌝ }
     ensures { λ r. ⌜ r ≡ reasonOf «hop_limit» (now (source .entry)) (now (destination .entry)) (now (packet .entry)) ⌝ }
 {
     match check_len(packet.len()) {
@@ -214,7 +214,7 @@ fn is_far(packet: &[u8], hop_limit: u8) -> bool
 
 // What a packet is that came under a hop limit, from a source to a destination, whether its checksum is right, and the reason not to receive it.
 pub fn judge(packet: &[u8], hop_limit: u8, source: &[u8; 16], destination: &[u8; 16]) -> Judged
-    ensures { λ r. ⌜ judgedTold r ≡ judgedOf «hop_limit» (now (source .entry)) (now (destination .entry)) (now (packet .entry)) ⌝ }
+    ensures { λ r. ⌜ packetJudgedTold r ≡ judgedOf «hop_limit» (now (source .entry)) (now (destination .entry)) (now (packet .entry)) ⌝ }
 {
     let valid = validates(packet, source, destination);
     let opened = Icmpv6PayloadSlice::from_packet(packet);
@@ -232,7 +232,7 @@ pub fn receive_check(
     source: &[u8; 16],
     destination: &[u8; 16],
 ) -> Received
-    ensures { λ r. ⌜ told r ≡ receiveOf «hop_limit» (now (source .entry)) (now (destination .entry)) (now (packet .entry)) ⌝ }
+    ensures { λ r. ⌜ receivedTold r ≡ receiveOf «hop_limit» (now (source .entry)) (now (destination .entry)) (now (packet .entry)) ⌝ }
 {
     if is_far(packet, hop_limit) {
         return Received::Refused(Refusal::NotReceived { reason: 1 });

@@ -28,7 +28,7 @@ use Rattle.receive.proofs.Types.{ndp-kind}
 use Rattle.receive.proofs.Theorems.{own-alone}
 use Rattle.icmpv6_payload_slice.specs.Dispatch.{optionsIn}
 use Rattle.icmpv6_payload_slice.proofs.Agree.{same-options}
-use Rattle.writer.specs.Write.{optionsOf, packetOf, writeOf}
+use Rattle.writer.specs.Write.{payloadOptions, packetOf, writeOf}
 use Rattle.writer.proofs.Accepted.{accepted}
 use Rattle.writer.proofs.Sent.{payload-kept, length-is, validates}
 
@@ -59,7 +59,7 @@ module _ {t : Icmpv6Type} (is : Ndp t) (source destination payload out v : List 
   packet = packetOf source destination t payload
 
   -- the check is handed the options that the writer walked: the dispatch by bytes and that by value place them alike
-  options-found : check.optionsOf packet ≡ optionsOf t payload
+  options-found : check.packetOptions packet ≡ payloadOptions t payload
   options-found =
       let h = head is in
       let n = length-is source destination t payload in
@@ -67,7 +67,7 @@ module _ {t : Icmpv6Type} (is : Ndp t) (source destination payload out v : List 
       ∙ same-options (kindNumber t) packet (omega (arith, n))
       ∙ ap (optionsIn 0 (kindNumber t)) (payload-kept source destination t payload)
 
-  pub received : receiveOf 255 source destination packet ≡ answerBy packet (firstOf (ownOf (typeNumber t) source destination packet (occurs 1 (walk (optionsOf t payload) .items))))
+  pub received : receiveOf 255 source destination packet ≡ answerBy packet (firstOf (ownOf (typeNumber t) source destination packet (occurs 1 (walk (payloadOptions t payload) .items))))
   received =
       let ok = accepted t payload out v written in
       let h = head is in

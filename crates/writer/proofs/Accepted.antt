@@ -26,7 +26,7 @@ use Rattle.ndp_options.proofs.Rule.{numbered}
 use Rattle.ndp_option_list.specs.Whole.{countOf, endBy}
 use Rattle.output.specs.Output.{roomFor}
 use Rattle.output.proofs.Fitting.{narrow}
-use Rattle.writer.specs.Write.{_orElse_, optionsOf, sendableOf, writeOf}
+use Rattle.writer.specs.Write.{_orElse_, payloadOptions, sendableOf, writeOf}
 use Rattle.writer.specs.Accepted.{Accepted}
 use Rattle.writer.proofs.Laws.{rest, fitting}
 
@@ -43,10 +43,10 @@ module _ (t : Icmpv6Type) (s out v : List ℕ) where
   ]
 
   -- the walk
-  walked : (e : Ending) → walk (optionsOf t s) .ending ≡ e → ((endBy e (gives (length (walk (optionsOf t s) .items) ∷ [])) .paper orElse gives []) orElse roomFor (8 + length s) out 0) ≡ gives v → (walk (optionsOf t s) .ending ≡ Clean) × (8 + length s ≤ length out)
+  walked : (e : Ending) → walk (payloadOptions t s) .ending ≡ e → ((endBy e (gives (length (walk (payloadOptions t s) .items) ∷ [])) .paper orElse gives []) orElse roomFor (8 + length s) out 0) ≡ gives v → (walk (payloadOptions t s) .ending ≡ Clean) × (8 + length s ≤ length out)
   walked Clean e q = (e, last q)
   walked (RefusedAt at why) e q =
-      let n = refusal-numbered rule numbered (drop at (optionsOf t s)) (refused-there rule (optionsOf t s) e .0) in
+      let n = refusal-numbered rule numbered (drop at (payloadOptions t s)) (refused-there rule (payloadOptions t s) e .0) in
       let some = ne-eqb (why .number) 0 (λ z. omega arith) in
       let first : ((why orElse gives []) orElse roomFor (8 + length s) out 0) ≡ why = simp some in
       never {p = why} n (sym first ∙ q)
@@ -56,13 +56,13 @@ module _ (t : Icmpv6Type) (s out v : List ℕ) where
   accepted = by (misnamed t) (ltb 65527 (length s)) refl refl
     where
       by : (a b : Bool) → misnamed t ≡ a → ltb 65527 (length s) ≡ b →
-          (cond a (refuses 10 (typeNumber t ∷ codeNumber t ∷ [])) (cond b (refuses 3 (65527 ∷ length s ∷ [])) (byValue t s orElse (countOf (optionsOf t s) .paper orElse gives []))) orElse roomFor (8 + length s) out 0) ≡ gives v →
+          (cond a (refuses 10 (typeNumber t ∷ codeNumber t ∷ [])) (cond b (refuses 3 (65527 ∷ length s ∷ [])) (byValue t s orElse (countOf (payloadOptions t s) .paper orElse gives []))) orElse roomFor (8 + length s) out 0) ≡ gives v →
           Accepted t s out
       by true b e f q = never {p = refuses 10 (typeNumber t ∷ codeNumber t ∷ [])} (lit< tt) q
       by false true e f q = never {p = refuses 3 (65527 ∷ length s ∷ [])} (lit< tt) q
       by false false e f q = elim (decLe (fixedLen (kindNumber t)) (length s)) [
         | yes h ↦
-            let w = walked (walk (optionsOf t s) .ending) refl (rw (whole 0 (kindNumber t) s (omega arith)) at q) in
+            let w = walked (walk (payloadOptions t s) .ending) refl (rw (whole 0 (kindNumber t) s (omega arith)) at q) in
             record { named = e; within = ltb-false 65527 (length s) f; present = h; walks = w .0; room = omega (arith, w .1) }
         | no h ↦ never {p = refuses 4 (fixedLen (kindNumber t) ∷ (length s - 0) ∷ [])} (lit< tt) (rw (short 0 (kindNumber t) s (omega arith)) at q)
       ]

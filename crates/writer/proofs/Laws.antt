@@ -18,11 +18,11 @@ use Rattle.icmpv6_type.specs.Value.{kindNumber, typeNumber, codeNumber}
 use Rattle.icmpv6_type.specs.Reserved.{misnamed}
 use Rattle.icmpv6_payload_slice.specs.declared.Icmpv6PayloadSlice.{Icmpv6PayloadSlice}
 use Rattle.icmpv6_payload_slice.specs.declared.PayloadRead.the-variants.{Payload}
-use Rattle.icmpv6_payload_slice.specs.Dispatch.{readTold, byValue}
+use Rattle.icmpv6_payload_slice.specs.Dispatch.{payloadTold, byValue}
 use Rattle.icmpv6_payload_slice.proofs.Opened.{placed}
 use Rattle.ndp_walk.specs.Step.{told}
 use Rattle.ndp_option_list.specs.Whole.{countOf}
-use Rattle.writer.specs.Write.{_orElse_, optionsOf, sendableOf, writeOf}
+use Rattle.writer.specs.Write.{_orElse_, payloadOptions, sendableOf, writeOf}
 use Rattle.output.specs.Output.{leaves}
 use Rattle.output.proofs.Fitting.{fits as there-is-room, narrow as no-room}
 
@@ -41,7 +41,7 @@ module _ (t : Icmpv6Type) (s : List ℕ) where
     long h = rw (named, lt-ltb 65527 (length s) h)
 
     module _ (some : length s ≤ 65527) where
-      pub rest : sendableOf t s ≡ (byValue t s orElse (countOf (optionsOf t s) .paper orElse gives []))
+      pub rest : sendableOf t s ≡ (byValue t s orElse (countOf (payloadOptions t s) .paper orElse gives []))
       unfolding sendableOf
       rest = rw (named, le-ltb 65527 (length s) some)
 
@@ -50,15 +50,15 @@ module _ (t : Icmpv6Type) (s : List ℕ) where
       no-fixed-part why e = rest ∙ rw (← e) (refused-first why _)
 
       -- the fixed part is there: the walk of the options decides
-      module _ (m : Icmpv6PayloadSlice) (given : readTold (Payload m) ≡ byValue t s) (n : ℕ) where
-        pub no-clean-walk : (why : Refusal) → told (refusal why) n ≡ countOf (optionsOf t s) → sendableOf t s ≡ refusal why
+      module _ (m : Icmpv6PayloadSlice) (given : payloadTold (Payload m) ≡ byValue t s) (n : ℕ) where
+        pub no-clean-walk : (why : Refusal) → told (refusal why) n ≡ countOf (payloadOptions t s) → sendableOf t s ≡ refusal why
         no-clean-walk why e = rest ∙ rw (← given, ← e) (refused-first why _)
 
-        pub clean : told (gives (n ∷ [])) 0 ≡ countOf (optionsOf t s) → sendableOf t s ≡ gives []
+        pub clean : told (gives (n ∷ [])) 0 ≡ countOf (payloadOptions t s) → sendableOf t s ≡ gives []
         clean e = rest ∙ rw (← given, ← e)
 
   -- what was dispatched says where the options are
-  pub dispatched : (m : Icmpv6PayloadSlice) → readTold (Payload m) ≡ byValue t s → (m .«options_at» ≤ length s) × (drop (m .«options_at») s ≡ optionsOf t s)
+  pub dispatched : (m : Icmpv6PayloadSlice) → payloadTold (Payload m) ≡ byValue t s → (m .«options_at» ≤ length s) × (drop (m .«options_at») s ≡ payloadOptions t s)
   dispatched m e =
       let h = placed 0 (kindNumber t) s {m = m} (omega arith) e in
       (h .within, ap (λ (i : ℕ). drop i s) (h .options))
@@ -68,7 +68,7 @@ module _ (t : Icmpv6Type) (s : List ℕ) where
   unfolding sendableOf
   within = by (misnamed t) (ltb 65527 (length s)) refl
     where
-      by : (a b : Bool) → ltb 65527 (length s) ≡ b → gives [] ≡ cond a (refuses 10 (typeNumber t ∷ codeNumber t ∷ [])) (cond b (refuses 3 (65527 ∷ length s ∷ [])) (byValue t s orElse (countOf (optionsOf t s) .paper orElse gives []))) → length s ≤ 65527
+      by : (a b : Bool) → ltb 65527 (length s) ≡ b → gives [] ≡ cond a (refuses 10 (typeNumber t ∷ codeNumber t ∷ [])) (cond b (refuses 3 (65527 ∷ length s ∷ [])) (byValue t s orElse (countOf (payloadOptions t s) .paper orElse gives []))) → length s ≤ 65527
       by true b f q = absurd (let z : _≡_ {A = ℕ} 0 10 = ap (λ (p : Paper). p .number) q in omega arith)
       by false true f q = absurd (let z : _≡_ {A = ℕ} 0 3 = ap (λ (p : Paper). p .number) q in omega arith)
       by false false f q = ltb-false 65527 (length s) f

@@ -11,11 +11,11 @@ use Rattle.icmpv6_type.specs.Value.{kindNumber}
 use Rattle.icmpv6_type.specs.Reserved.{misnamed}
 use Rattle.ndp_walk.specs.Walk.{Clean}
 use Rattle.ndp_options.specs.Walk.{walk}
-use Rattle.writer.specs.Write.{optionsOf}
+use Rattle.writer.specs.Write.{payloadOptions}
 
 pub record Accepted (t : Icmpv6Type) (s out : List ℕ) : Type 0 where
   pub named : misnamed t ≡ false
   pub within : length s ≤ 65527
   pub present : fixedLen (kindNumber t) ≤ length s
-  pub walks : walk (optionsOf t s) .ending ≡ Clean
+  pub walks : walk (payloadOptions t s) .ending ≡ Clean
   pub room : 8 + length s ≤ length out

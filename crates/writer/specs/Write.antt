@@ -28,15 +28,15 @@ abbrev pub _orElse_ : Paper → Paper → Paper
 a orElse b = cond (eqb (a .number) 0) b a
 
 -- the option bytes, where the dispatch places them: none unless the value is of types 133 to 137
-abbrev pub optionsOf : Icmpv6Type → List ℕ → List ℕ
-optionsOf t payload = optionsIn 0 (kindNumber t) payload
+abbrev pub payloadOptions : Icmpv6Type → List ℕ → List ℕ
+payloadOptions t payload = optionsIn 0 (kindNumber t) payload
 
 -- refusals 10 and 3, the dispatch's 4, the walk's 5 to 7
 unfoldable pub sendableOf : Icmpv6Type → List ℕ → Paper
 sendableOf t payload =
     cond (misnamed t) (refuses 10 (typeNumber t ∷ codeNumber t ∷ []))
     (cond (ltb 65527 (length payload)) (refuses 3 (65527 ∷ length payload ∷ []))
-    (byValue t payload orElse (countOf (optionsOf t payload) .paper orElse gives [])))
+    (byValue t payload orElse (countOf (payloadOptions t payload) .paper orElse gives [])))
 
 -- and 9, or the length
 abbrev pub writeOf : Icmpv6Type → List ℕ → List ℕ → Paper

@@ -3,7 +3,7 @@
 use Rattle.c_decode.specs.Head.{headFor}
 use Rattle.icmpv6.specs.Head.{decodeOf}
 use Rattle.packet_length.proofs.Laws.{Between, passed, sized-fits, refused}
-use Rattle.packet_length.specs.Length.{told as lengthTold}
+use Rattle.packet_length.specs.Length.{lengthTold}
 use Rattle.refusal.proofs.Paper.{refusal-numbered}
 use lib.ListN.{length}
 use native.Mathlib.Omega.{arith}

@@ -2,7 +2,7 @@
 -- Assumes nothing.
 use Rattle.icmpv6_type.proofs.Paper.{value-is}
 use Rattle.writer.specs.Write.{outputOf}
-use Rattle.c_write.specs.Written.{valueOf, writtenFor}
+use Rattle.c_write.specs.Written.{valueOfWord, writtenFor}
 use Rattle.refusal.proofs.Paper.{refusal-numbered}
 use Prim.Native.Nat.{ℕ}
 use mathlib.Core.Path.{_≡_, sym, ap, _∙_}
@@ -43,7 +43,7 @@ same-length c = search needs
 -- what is written is the value of the three numbers
 made : (c : tie.After-from-parts) →
     let a = c .before .before .before .before .args in
-    valueOf (a .type-u8) (a .code-u8) (a .bytes5to8) ≡ c .from-parts .result
+    valueOfWord (a .type-u8) (a .code-u8) (a .bytes5to8) ≡ c .from-parts .result
 made c = rw (← (c .before .u32-to-be .ensures)) (value-is _ _ _ _ (c .from-parts .ensures))
 
 returns : tie.Need-returns

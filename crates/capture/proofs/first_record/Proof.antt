@@ -8,7 +8,7 @@ use mathlib.Core.Path.{_≡_, sym, _∙_, ap}
 use lib.ListN.{length}
 use borrow.Author.Tests.{not-true, not-false}
 use Rattle.wire.specs.Prefix.{begins}
-use Rattle.capture.specs.Record.{placed, mark}
+use Rattle.capture.specs.Record.{recordPlaced, mark}
 use Rattle.capture.proofs.Judged.{none-left, one-left, not-marked, head-cut, too-long, body-cut, whole}
 use borrow.Author.Needs.{needs}
 use Rattle.capture.proofs.first_record.Statement.{statement}
@@ -17,12 +17,12 @@ use Rattle.capture.proofs.first_record.Tie as tie
 returns : tie.Need-returns
 returns c =
     let a = c .before .before .args in
-    ap (placed (a .at)) (sym (none-left (now (a .left)) (a .place) (c .if1 .taken)))
+    ap (recordPlaced (a .at)) (sym (none-left (now (a .left)) (a .place) (c .if1 .taken)))
 
 returns-2 : tie.Need-returns-2
 returns-2 c =
     let a = c .before .before .before .args in
-    ap (placed (a .at)) (sym (one-left (now (a .left)) (a .place) (omega arith) (c .if2 .taken)))
+    ap (recordPlaced (a .at)) (sym (one-left (now (a .left)) (a .place) (omega arith) (c .if2 .taken)))
 
 slice-aggregate-begins-with : tie.Need-slice-aggregate-begins-with
 slice-aggregate-begins-with c = search needs
@@ -44,13 +44,13 @@ returns-3 c =
     let w = c .before in
     let b = w .before .before in
     let a = b .before .before .before .args in
-    ap (placed (a .at)) (sym (not-marked (now (a .left)) (a .place) (b .if2 .left) (sym (w .begins-with .ensures) ∙ not-true _ (c .if3 .taken))))
+    ap (recordPlaced (a .at)) (sym (not-marked (now (a .left)) (a .place) (b .if2 .left) (sym (w .begins-with .ensures) ∙ not-true _ (c .if3 .taken))))
 
 returns-4 : tie.Need-returns-4
 returns-4 c =
     let g = c .before in
     let a = g .before .before .before .before .before .before .args in
-    ap (placed (a .at)) (sym (head-cut (now (a .left)) (a .place) (good g .0) (good g .1) (c .if4 .taken)))
+    ap (recordPlaced (a .at)) (sym (head-cut (now (a .left)) (a .place) (good g .0) (good g .1) (c .if4 .taken)))
 
 shared-slice-read-u16-from-be : tie.Need-shared-slice-read-u16-from-be
 shared-slice-read-u16-from-be c = search needs
@@ -70,7 +70,7 @@ returns-5 c =
     let h = w .before .before .before in
     let g = h .before in
     let a = g .before .before .before .before .before .before .args in
-    rw (w .u16-from-be .ensures) (ap (placed (a .at)) (sym (too-long (now (a .left)) (a .place) (good g .0) (good g .1) (h .if4 .left) (rw (w .u16-from-be .ensures) at (c .if5 .taken)))))
+    rw (w .u16-from-be .ensures) (ap (recordPlaced (a .at)) (sym (too-long (now (a .left)) (a .place) (good g .0) (good g .1) (h .if4 .left) (rw (w .u16-from-be .ensures) at (c .if5 .taken)))))
 
 sub-if6 : tie.Need-sub-if6
 sub-if6 c = search needs
@@ -82,7 +82,7 @@ returns-6 c =
     let h = w .before .before .before in
     let g = h .before in
     let a = g .before .before .before .before .before .before .args in
-    ap (placed (a .at)) (sym (body-cut (now (a .left)) (a .place) (good g .0) (good g .1) (h .if4 .left) (rw (w .u16-from-be .ensures) at (i .if5 .left)) (rw (w .u16-from-be .ensures) at (c .if6 .taken))))
+    ap (recordPlaced (a .at)) (sym (body-cut (now (a .left)) (a .place) (good g .0) (good g .1) (h .if4 .left) (rw (w .u16-from-be .ensures) at (i .if5 .left)) (rw (w .u16-from-be .ensures) at (c .if6 .taken))))
 
 shared-slice-read-t18 : tie.Need-shared-slice-read-t18
 shared-slice-read-t18 c = search needs
@@ -110,7 +110,7 @@ returns-7 c =
     let h = w .before .before .before in
     let g = h .before in
     let a = g .before .before .before .before .before .before .args in
-    rw (w .u16-from-be .ensures) (ap (placed (a .at)) (sym (whole (now (a .left)) (a .place) (good g .0) (good g .1) (h .if4 .left) (rw (w .u16-from-be .ensures) at (i .if5 .left)) (rw (w .u16-from-be .ensures) at (k .if6 .left)))))
+    rw (w .u16-from-be .ensures) (ap (recordPlaced (a .at)) (sym (whole (now (a .left)) (a .place) (good g .0) (good g .1) (h .if4 .left) (rw (w .u16-from-be .ensures) at (i .if5 .left)) (rw (w .u16-from-be .ensures) at (k .if6 .left)))))
 
 pub first-record-spec : {M : Type 1} → statement M
 first-record-spec =

@@ -4,7 +4,7 @@ use mathlib.Core.Path.{_≡_, refl, sym, ap, _∙_}
 use native.Mathlib.Omega.{arith}
 use lib.ListN.{length}
 use borrow.Author.Tests.{eq-eqb, ne-eqb}
-use Rattle.packet_length.specs.Length.{told as lengthTold}
+use Rattle.packet_length.specs.Length.{lengthTold}
 use Rattle.packet_length.proofs.Laws.{Between, passed, sized-fits, refused}
 use Rattle.checksum.specs.Icmpv6.{sumOf, verdictOf}
 use Rattle.checksum.proofs.Packets.{sum-of-totals}

@@ -7,9 +7,9 @@ use mathlib.Core.Path.{_≡_}
 use lib.ListN.{length, take}
 use Rattle.output.proofs.Fitting.{told}
 use Rattle.output.proofs.Wrote.{start}
-use Rattle.lines.specs.declared.Line.the-variants.{Title}
-use Rattle.lines.specs.Line.{text}
-use Rattle.lines.specs.Text.{titleLine}
+use Rattle.dump_lines.specs.declared.Line.the-variants.{Title}
+use Rattle.dump_lines.specs.Line.{text}
+use Rattle.dump_lines.specs.Text.{titleLine}
 use Rattle.dump.proofs.Turns.{told-as}
 use borrow.Author.Needs.{needs}
 use Rattle.dump.proofs.title.Statement.{statement}

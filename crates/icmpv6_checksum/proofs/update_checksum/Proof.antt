@@ -46,7 +46,7 @@ use Rattle.checksum.specs.declared.Computed.{Computed}
 use Rattle.icmpv6.specs.Head.{headerTold}
 use Rattle.icmpv6.specs.declared.icmpv6_header.Icmpv6Header.{Icmpv6Header}
 use Rattle.paper.specs.Paper.{Paper}
-use Rattle.icmpv6_checksum.specs.Header.{calcOf, leaves}
+use Rattle.icmpv6_checksum.specs.Header.{calcOf, headerAfter}
 use Rattle.checksum.proofs.Computed as C
 use Rattle.checksum.proofs.Computed.Laws as C′
 use Rattle.icmpv6.proofs.icmpv6_header.Icmpv6Header as T
@@ -170,7 +170,7 @@ module _ {M : Type 1} (𝓤 : URA M) (H : Heap 𝓤) (A : Atoms 𝓤) (W : Given
         nothing ! $ move ! (1 ∷ 0 ∷ []) $ fjoin ! $ move ! (1 ∷ 0 ∷ []) $ fjoin ! $ nothing ! $ by ! asked-again
 
     abbrev Set : Icmpv6Header → Type 0
-    Set d = headerTold d ≡ leaves (computed r) (headerTold h)
+    Set d = headerTold d ≡ headerAfter (computed r) (headerTold h)
 
     set : (d : Icmpv6Header) → ent 𝓤 (ensured 𝓤 H A sets.ended (sets.clauses 𝓤 H A at-mem run) tt (h, (r, tt)) tt d) (fact 𝓤 (Set d))
     set d = exE 𝓤 _ (λ ws. snd∗ 𝓤 (sem 𝓤 H A (lasts sets.ended tt (h, (r, tt)) ws)) (fact 𝓤 (Set d)))
@@ -179,7 +179,7 @@ module _ {M : Type 1} (𝓤 : URA M) (H : Heap 𝓤) (A : Atoms 𝓤) (W : Given
     exits d e e′ is =
         qed W (‵ (fobs γ (T.the-row .coded .code d)) ∷ ‵ (fbor κ (Body (mem T.the-row) b o γ)) ∷ ‵ (flft κ q) ∷ (‵ (flft κₚ qₚ) ⊛ ‵ (flft κₛ qₛ) ⊛ ‵ (flft κₜ qₜ) ⊛ ‵ ftrue) ∷ ‵ Own ∷ []) ∵
         suffices ! _ (ends-at 𝓤 H A f.ended stayed (f.clauses 𝓤 H A at-mem run) W (((κ, (κₚ, (κₛ, (κₜ, tt)))), (q, (qₚ, (qₛ, (qₜ, tt)))), tt, x, at), tt) u r (d, (tt, (tt, (tt, tt)))) (tt, (tt, (tt, (tt, tt))))) $
-        says ! (e, e′ ∙ ap (λ (a : Paper). leaves a (headerTold h)) e) $
+        says ! (e, e′ ∙ ap (λ (a : Paper). headerAfter a (headerTold h)) e) $
         move ! (2 ∷ 3 ∷ []) $ join ! $ frame ! $
         -- [obs; the borrow; what the references own]
         feqI ! (List Val) (vptr b o ∷ []) (vptr b o ∷ []) refl $ fjoin3 ! $ fjoin ! $

@@ -3,7 +3,7 @@
 use denote.Ref.{now}
 use native.Mathlib.Omega.{arith}
 use Rattle.output.proofs.Fitting.{told, not-full}
-use Rattle.lines.specs.Line.{text}
+use Rattle.dump_lines.specs.Line.{text}
 use borrow.Author.Needs.{needs}
 use Rattle.listing.proofs.put_line.Statement.{statement}
 use Rattle.listing.proofs.put_line.Tie as tie

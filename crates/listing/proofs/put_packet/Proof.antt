@@ -9,7 +9,7 @@ use Rattle.refusal.specs.Table.{number}
 use Rattle.packet_length.proofs.Laws.{Between}
 use Rattle.icmpv6_payload_slice.specs.Dispatch.{kindAt}
 use Rattle.icmpv6_payload_slice.proofs.Opened.{Opened, opened}
-use Rattle.receive.specs.Told.{Judgement}
+use Rattle.receive.specs.Told.{PacketJudgement}
 use Rattle.output.proofs.Wrote.{_then_}
 use Rattle.listing.proofs.Text.{behind-head, head-line, not-opened, has-head, has-head-4, shown, cut, cut-kind}
 use borrow.Author.Needs.{needs}
@@ -32,10 +32,10 @@ start1 c = c .before .before .before .before .before
 heads1 : (c : tie.After-opened) → Between (length (start1 c .args .packet .now))
 heads1 c =
     let a = start1 c .args in
-    has-head (a .hop-limit) (now (a .source)) (now (a .destination)) (now (a .packet)) _ (ap (λ (j : Judgement). j .opened) (c .before .before .judge .ensures)) (c .opened .given .1)
+    has-head (a .hop-limit) (now (a .source)) (now (a .destination)) (now (a .packet)) _ (ap (λ (j : PacketJudgement). j .opened) (c .before .before .judge .ensures)) (c .opened .given .1)
 
 parts : (c : tie.After-opened) → Opened (start1 c .args .packet .now) (c .opened .given .0 .0)
-parts c = opened (start1 c .args .packet .now) (heads1 c) _ (ap (λ (j : Judgement). j .opened) (c .before .before .judge .ensures)) (c .opened .given .1)
+parts c = opened (start1 c .args .packet .now) (heads1 c) _ (ap (λ (j : PacketJudgement). j .opened) (c .before .before .judge .ensures)) (c .opened .given .1)
 
 put-head-requires : tie.Need-put-head-requires
 put-head-requires c κs =
@@ -64,7 +64,7 @@ start2 c = c .before .before .before .before .before
 heads2 : (c : tie.After-opened2) → number (c .opened2 .given .0 .0) ≡ 4 → Between (length (start2 c .args .packet .now))
 heads2 c =
     let a = start2 c .args in
-    has-head-4 (a .hop-limit) (now (a .source)) (now (a .destination)) (now (a .packet)) _ (ap (λ (j : Judgement). j .opened) (c .before .before .judge .ensures)) (c .opened2 .given .1)
+    has-head-4 (a .hop-limit) (now (a .source)) (now (a .destination)) (now (a .packet)) _ (ap (λ (j : PacketJudgement). j .opened) (c .before .before .judge .ensures)) (c .opened2 .given .1)
 
 put-line-requires : tie.Need-put-line-requires
 put-line-requires c κs = omega (arith, c .before .before .before .before .before .before .before .before .before .pre)
@@ -80,7 +80,7 @@ returns c =
     let d = n .before .before in
     let s = start2 d in
     let a = s .args in
-    let e = ap (λ (j : Judgement). j .opened) (d .before .before .judge .ensures) in
+    let e = ap (λ (j : PacketJudgement). j .opened) (d .before .before .judge .ensures) in
     (rw (not-opened (a .hop-limit) (now (a .source)) (now (a .destination)) (now (a .packet)) _ e (d .opened2 .given .1) (λ z. i .if1 .taken (n .number .ensures ∙ z)), ← (n .number .ensures)) (l .put-line .ensures .0), omega (arith, l .put-line .ensures .1))
 
 shared-slice-read-put-head : tie.Need-shared-slice-read-put-head
@@ -114,8 +114,8 @@ returns-2 c =
     let d = t .before .before in
     let a = start1 d .args in
     let j = d .before .before .judge .ensures in
-    let e = ap (λ (j : Judgement). j .opened) j in
-    let line = head-line (a .hop-limit) (now (a .source)) (now (a .destination)) (now (a .packet)) (t .type-u8 .ensures ∙ parts d .kind) (ap (λ (j : Judgement). j .valid) j) (ap (λ (j : Judgement). j .reason) j) in
+    let e = ap (λ (j : PacketJudgement). j .opened) j in
+    let line = head-line (a .hop-limit) (now (a .source)) (now (a .destination)) (now (a .packet)) (t .type-u8 .ensures ∙ parts d .kind) (ap (λ (j : PacketJudgement). j .valid) j) (ap (λ (j : PacketJudgement). j .reason) j) in
     (rw (shown (a .hop-limit) (now (a .source)) (now (a .destination)) (now (a .packet)) _ e (d .opened .given .1), line, ← (t .type-u8 .ensures)) (h .put-head .ensures .0 then o .put-options .ensures .0), omega (arith, h .put-head .ensures .1, o .put-options .ensures .1))
 
 same-length-3 : tie.Need-same-length-3
@@ -129,10 +129,10 @@ returns-3 c =
     let d = i .before .before .before in
     let a = start2 d .args in
     let j = d .before .before .judge .ensures in
-    let e = ap (λ (j : Judgement). j .opened) j in
+    let e = ap (λ (j : PacketJudgement). j .opened) j in
     let four = sym (i .before .number .ensures) ∙ i .if1 .left in
     let kind = cut-kind (a .hop-limit) (now (a .source)) (now (a .destination)) (now (a .packet)) _ e (d .opened2 .given .1) four in
-    let line = head-line (a .hop-limit) (now (a .source)) (now (a .destination)) (now (a .packet)) (sym kind) (ap (λ (j : Judgement). j .valid) j) (ap (λ (j : Judgement). j .reason) j) in
+    let line = head-line (a .hop-limit) (now (a .source)) (now (a .destination)) (now (a .packet)) (sym kind) (ap (λ (j : PacketJudgement). j .valid) j) (ap (λ (j : PacketJudgement). j .reason) j) in
     (rw (cut (a .hop-limit) (now (a .source)) (now (a .destination)) (now (a .packet)) _ e (d .opened2 .given .1) four, line) (h .put-head2 .ensures .0 then rw (i .if1 .left) at (l .put-line2 .ensures .0)), omega (arith, h .put-head2 .ensures .1, l .put-line2 .ensures .1))
 
 pub put-packet-spec : {M : Type 1} → statement M

@@ -9,7 +9,7 @@ use denote.Ref.{now}
 use Rattle.refusal.specs.Paper.{refusal}
 use Rattle.output.specs.Output.{Wrote}
 use Rattle.output.proofs.Wrote.{_then_, nothing}
-use Rattle.lines.specs.Text.{optLine}
+use Rattle.dump_lines.specs.Text.{optLine}
 use Rattle.ndp_walk.proofs.Steps.{Onward}
 use Rattle.ndp_options.specs.Rule.{rule}
 use Rattle.ndp_options.specs.Told.{itemTold}

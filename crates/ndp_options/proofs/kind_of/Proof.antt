@@ -1,6 +1,6 @@
 -- `kind_of` meets its contract: each arm rewrites with the number that it matched, and the last is none of 1 to 5.
 -- Assumes nothing.
-use Rattle.ndp_options.specs.Rule.{kindOf}
+use Rattle.ndp_options.specs.Rule.{optionKind}
 use borrow.Author.Tests.{lt-ltb, le-ltb}
 use native.Mathlib.Decide.{decLe}
 use native.Mathlib.Omega.{arith}
@@ -10,7 +10,7 @@ use Prim.Native.Nat.{ℕ}
 use Rattle.ndp_options.proofs.kind_of.Statement.{statement}
 use Rattle.ndp_options.proofs.kind_of.Tie as tie
 
-other : (n : ℕ) → n ≢ 1 → n ≢ 2 → n ≢ 3 → n ≢ 4 → n ≢ 5 → 0 ≡ kindOf n
+other : (n : ℕ) → n ≢ 1 → n ≢ 2 → n ≢ 3 → n ≢ 4 → n ≢ 5 → 0 ≡ optionKind n
 other n a b c d e = elim (decLe 6 n) [
   | yes h ↦ simp (lt-ltb 5 n (omega arith))
   | no h ↦ simp (le-ltb 5 n (omega arith)) (omega arith)

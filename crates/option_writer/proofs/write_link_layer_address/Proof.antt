@@ -5,7 +5,7 @@ use mathlib.Core.List.{List, [], _∷_}
 use mathlib.Core.Path.{_≡_, refl, ap, _∙_}
 use Rattle.option_writer.specs.Options.{linkLayerBytes}
 use Rattle.option_writer.proofs.Laws.{put-as, six}
-use Rattle.ndp_option.specs.LinkLayer.{typeOf}
+use Rattle.ndp_option.specs.LinkLayer.{linkLayerType}
 use lib.ListN.{length, getD}
 use denote.Ref.{now}
 use borrow.Author.Needs.{needs}
@@ -48,7 +48,7 @@ returns c = let p = c .before .before in
     let a = t .before .before .args in
     let all : length (a .t2) ≡ 6 = search needs in
     let b = a .t2 in
-    let same = ap (λ (k : ℕ). k ∷ 1 ∷ getD b 0 0 ∷ getD b 1 0 ∷ getD b 2 0 ∷ getD b 3 0 ∷ getD b 4 0 ∷ getD b 5 0 ∷ []) (t .option-type .ensures) ∙ ap (λ (l : List ℕ). typeOf (a .whose) ∷ 1 ∷ l) (six b all) in
+    let same = ap (λ (k : ℕ). k ∷ 1 ∷ getD b 0 0 ∷ getD b 1 0 ∷ getD b 2 0 ∷ getD b 3 0 ∷ getD b 4 0 ∷ getD b 5 0 ∷ []) (t .option-type .ensures) ∙ ap (λ (l : List ℕ). linkLayerType (a .whose) ∷ 1 ∷ l) (six b all) in
     put-as (now (a .out)) _ (linkLayerBytes (a .whose) b) 8 same refl (p .put .ensures .0) (p .put .ensures .1)
 
 pub write-link-layer-address-spec : {M : Type 1} → statement M

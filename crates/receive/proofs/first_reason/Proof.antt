@@ -12,7 +12,7 @@ use Rattle.packet_length.proofs.Laws.{Between}
 use Rattle.message_table.specs.Table.{isNdp}
 use Rattle.icmpv6_payload_slice.specs.Dispatch.{kindAt, byBytes}
 use Rattle.icmpv6_payload_slice.proofs.Opened.{Opened, opened, short-refused}
-use Rattle.receive.specs.Receive.{optionsOf, optionReasons, reasons}
+use Rattle.receive.specs.Receive.{packetOptions, optionReasons, reasons}
 use Rattle.receive.specs.Reasons.{firstOf}
 use Rattle.receive.proofs.Types.{ndp-kind}
 use borrow.Author.Needs.{needs}
@@ -74,7 +74,7 @@ past-code : (c : tie.Else5) →
     let a = start c .args in
     let p = a .packet .now in
     firstOf (reasons (a .hop-limit) (a .source .now) (a .destination .now) p)
-    ≡ cond (eqb (byBytes p .number) 4) 4 (firstOf (optionReasons (getD p 0 0) (optionsOf p) (a .source .now) (a .destination .now) p))
+    ≡ cond (eqb (byBytes p .number) 4) 4 (firstOf (optionReasons (getD p 0 0) (packetOptions p) (a .source .now) (a .destination .now) p))
 unfolding reasons firstOf
 past-code c =
     let v = c .before .before in

@@ -22,7 +22,7 @@ enum-told-2 c = search needs
 
 -- the length that was passed on
 fitting : (c : tie.After-enum-told2) → Between (length (c .before .before .before .before .args .packet .now))
-fitting c = passed _ (sym (ap size.told (c .enum-told2 .given .1)) ∙ c .before .before .check-len .ensures)
+fitting c = passed _ (sym (ap size.lengthTold (c .enum-told2 .given .1)) ∙ c .before .before .check-len .ensures)
 
 shared-slice-read-is-ndp : tie.Need-shared-slice-read-is-ndp
 shared-slice-read-is-ndp c = let h = fitting (c .before) in omega (arith, h)
@@ -34,7 +34,7 @@ both-requires : tie.Need-both-requires
 both-requires c κs = search needs
 
 returns : tie.Need-returns
-returns c = rw (refused-misfit _ (c .enum-told .given .0 .0) (sym (ap size.told (c .enum-told .given .1)) ∙ c .before .before .check-len .ensures))
+returns c = rw (refused-misfit _ (c .enum-told .given .0 .0) (sym (ap size.lengthTold (c .enum-told .given .1)) ∙ c .before .before .check-len .ensures))
 
 returns-2 : tie.Need-returns-2
 returns-2 c = let h = fitting (c .before .before .before) in rw (fits-between _ (h .low) (h .high), ← (c .before .is-ndp .ensures)) (c .both .ensures)

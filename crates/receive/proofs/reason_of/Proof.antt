@@ -20,14 +20,14 @@ enum-told-2 c = search needs
 
 -- the length that was passed on
 fitting : (c : tie.After-enum-told2) → Between (length (c .before .before .before .before .args .packet .now))
-fitting c = passed _ (sym (ap size.told (c .enum-told2 .given .1)) ∙ c .before .before .check-len .ensures)
+fitting c = passed _ (sym (ap size.lengthTold (c .enum-told2 .given .1)) ∙ c .before .before .check-len .ensures)
 
 first-reason-requires : tie.Need-first-reason-requires
 first-reason-requires c κs = let h = fitting c in ((h .low, h .high), c .before .before .before .before .pre)
 
 returns : tie.Need-returns
 unfolding reasonOf
-returns c = rw (refused-misfit _ (c .enum-told .given .0 .0) (sym (ap size.told (c .enum-told .given .1)) ∙ c .before .before .check-len .ensures))
+returns c = rw (refused-misfit _ (c .enum-told .given .0 .0) (sym (ap size.lengthTold (c .enum-told .given .1)) ∙ c .before .before .check-len .ensures))
 
 returns-2 : tie.Need-returns-2
 unfolding reasonOf

@@ -3,8 +3,8 @@
 use mathlib.Core.Path.{_≡_, sym, ap, _∙_}
 use denote.Ref.{now}
 use borrow.Author.Tests.{eq-eqb, ne-eqb}
-use Rattle.icmpv6_payload_slice.specs.Dispatch.{readTold}
-use Rattle.receive.specs.Told.{Judgement}
+use Rattle.icmpv6_payload_slice.specs.Dispatch.{payloadTold}
+use Rattle.receive.specs.Told.{PacketJudgement}
 use Rattle.receive.specs.Receive.{receiveOf}
 use Rattle.receive.proofs.Answers.{far-reason}
 use borrow.Author.Needs.{needs}
@@ -23,7 +23,7 @@ judge-requires c κs = search needs
 
 returns-2 : tie.Need-returns-2
 unfolding receiveOf
-returns-2 c = let e = ap (λ (j : Judgement). j .reason) (c .before .judge .ensures) in rw (← e, ne-eqb _ _ (c .if2 .taken))
+returns-2 c = let e = ap (λ (j : PacketJudgement). j .reason) (c .before .judge .ensures) in rw (← e, ne-eqb _ _ (c .if2 .taken))
 
 enum-known-opened : tie.Need-enum-known-opened
 enum-known-opened c = search needs
@@ -33,11 +33,11 @@ enum-known-opened-2 c = search needs
 
 returns-3 : tie.Need-returns-3
 unfolding receiveOf
-returns-3 c = let j = c .before .before .before .before .judge .ensures in let e = ap (λ (j : Judgement). j .reason) j in rw (← e, eq-eqb _ _ (c .before .before .before .if2 .left)) (ap readTold (sym (c .before .opened .given .1)) ∙ ap (λ (j : Judgement). j .opened) j)
+returns-3 c = let j = c .before .before .before .before .judge .ensures in let e = ap (λ (j : PacketJudgement). j .reason) j in rw (← e, eq-eqb _ _ (c .before .before .before .if2 .left)) (ap payloadTold (sym (c .before .opened .given .1)) ∙ ap (λ (j : PacketJudgement). j .opened) j)
 
 returns-4 : tie.Need-returns-4
 unfolding receiveOf
-returns-4 c = let j = c .before .before .before .before .judge .ensures in let e = ap (λ (j : Judgement). j .reason) j in rw (← e, eq-eqb _ _ (c .before .before .before .if2 .left)) (ap readTold (sym (c .before .opened2 .given .1)) ∙ ap (λ (j : Judgement). j .opened) j)
+returns-4 c = let j = c .before .before .before .before .judge .ensures in let e = ap (λ (j : PacketJudgement). j .reason) j in rw (← e, eq-eqb _ _ (c .before .before .before .if2 .left)) (ap payloadTold (sym (c .before .opened2 .given .1)) ∙ ap (λ (j : PacketJudgement). j .opened) j)
 
 pub receive-check-spec : {M : Type 1} → statement M
 receive-check-spec =

@@ -4,11 +4,11 @@ use Prim.Native.Nat.{_≤_}
 use mathlib.Core.Path.{_≡_, sym, ap, _∙_}
 use lib.ListN.{length, drop}
 use Rattle.paper.proofs.Rest.{rest-is}
-use Rattle.writer.specs.Write.{optionsOf}
+use Rattle.writer.specs.Write.{payloadOptions}
 use denote.Ref.{now}
 use Rattle.ndp_option_list.specs.Whole.{countOf}
 use Rattle.ndp_option_list.specs.Told.{countTold}
-use Rattle.icmpv6_payload_slice.specs.Dispatch.{readTold}
+use Rattle.icmpv6_payload_slice.specs.Dispatch.{payloadTold}
 use Rattle.writer.proofs.Laws.{known-pair, long, no-fixed-part, no-clean-walk, clean, dispatched}
 use borrow.Author.Needs.{needs}
 use Rattle.writer.proofs.check.Statement.{statement}
@@ -46,10 +46,10 @@ enum-known-part c = search needs
 there : (c : tie.After-part) →
     let a = c .before .before .before .before .before .before .before .args in
     let m = c .part .given .0 .0 in
-    (m .«options_at» ≤ length (now (a .payload))) × (drop (m .«options_at») (now (a .payload)) ≡ optionsOf (a .icmp-type) (now (a .payload)))
+    (m .«options_at» ≤ length (now (a .payload))) × (drop (m .«options_at») (now (a .payload)) ≡ payloadOptions (a .icmp-type) (now (a .payload)))
 there c =
     let a = c .before .before .before .before .before .before .before .args in
-    dispatched (a .icmp-type) (now (a .payload)) (c .part .given .0 .0) (ap readTold (sym (c .part .given .1)) ∙ c .before .before .from-slice .ensures)
+    dispatched (a .icmp-type) (now (a .payload)) (c .part .given .0 .0) (ap payloadTold (sym (c .part .given .1)) ∙ c .before .before .from-slice .ensures)
 
 sub-count : tie.Need-sub-count
 sub-count c = there (c .before) .0
@@ -73,7 +73,7 @@ returns-3 : tie.Need-returns-3
 returns-3 c = let f = c .before .before .before in
     let n = f .before .before .before in
     let a = n .before .before .args in
-    sym (no-fixed-part (a .icmp-type) (now (a .payload)) (sym (n .names-known-pair .ensures) ∙ f .before .before .if1 .left) (f .before .if2 .left) (c .before .why .given .0 .0) (ap readTold (sym (c .before .why .given .1)) ∙ f .from-slice .ensures))
+    sym (no-fixed-part (a .icmp-type) (now (a .payload)) (sym (n .names-known-pair .ensures) ∙ f .before .before .if1 .left) (f .before .if2 .left) (c .before .why .given .0 .0) (ap payloadTold (sym (c .before .why .given .1)) ∙ f .from-slice .ensures))
 
 returns-4 : tie.Need-returns-4
 returns-4 c = let k = c .before .before in
@@ -82,7 +82,7 @@ returns-4 c = let k = c .before .before in
     let n = f .before .before .before in
     let a = n .before .before .args in
     let m = p .part .given .0 .0 in
-    let given = ap readTold (sym (p .part .given .1)) ∙ f .from-slice .ensures in
+    let given = ap payloadTold (sym (p .part .given .1)) ∙ f .from-slice .ensures in
     let walked = k .count .ensures ∙ ap countOf (rest-is (now (a .payload)) (m .«options_at») ∙ there p .1) in
     sym (clean (a .icmp-type) (now (a .payload)) (sym (n .names-known-pair .ensures) ∙ f .before .before .if1 .left) (f .before .if2 .left) m given (c .enum-told .given .0 .0) (ap countTold (sym (c .enum-told .given .1)) ∙ walked))
 
@@ -93,7 +93,7 @@ returns-5 c = let k = c .before .before .before in
     let n = f .before .before .before in
     let a = n .before .before .args in
     let m = p .part .given .0 .0 in
-    let given = ap readTold (sym (p .part .given .1)) ∙ f .from-slice .ensures in
+    let given = ap payloadTold (sym (p .part .given .1)) ∙ f .from-slice .ensures in
     let walked = k .count .ensures ∙ ap countOf (rest-is (now (a .payload)) (m .«options_at») ∙ there p .1) in
     sym (no-clean-walk (a .icmp-type) (now (a .payload)) (sym (n .names-known-pair .ensures) ∙ f .before .before .if1 .left) (f .before .if2 .left) m given (c .before .why2 .given .0 .1 .0) (c .before .why2 .given .0 .0) (ap countTold (sym (c .before .why2 .given .1)) ∙ walked))
 

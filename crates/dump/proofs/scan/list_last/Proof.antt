@@ -4,7 +4,7 @@ use denote.Ref.{now}
 use native.Mathlib.Omega.{arith}
 use mathlib.Core.Path.{refl}
 use Rattle.output.proofs.Fitting.{told, not-full}
-use Rattle.lines.specs.Line.{text}
+use Rattle.dump_lines.specs.Line.{text}
 use borrow.Author.Needs.{needs}
 use Rattle.dump.proofs.scan.list_last.Statement.{statement}
 use Rattle.dump.proofs.scan.list_last.Tie as tie

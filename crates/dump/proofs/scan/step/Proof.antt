@@ -8,7 +8,7 @@ use mathlib.Core.Bool.{false≢true}
 use mathlib.Core.List.{_++_}
 use lib.ListN.{drop, length-drop, length-append}
 use borrow.Author.Tests.{not-true, not-false}
-use Rattle.lines.specs.Text.{recordsLine}
+use Rattle.dump_lines.specs.Text.{recordsLine}
 use Rattle.refusal.specs.Paper.{refusal}
 use Rattle.capture.specs.Record.{recordOf}
 use Rattle.capture.specs.Capture.{FoundAt}

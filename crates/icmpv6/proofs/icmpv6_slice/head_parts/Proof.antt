@@ -1,8 +1,8 @@
 -- `head_parts` meets its contract: a length that is refused is refused with the same numbers, and else eight bytes are there to read.
 -- Assumes nothing.
-use Rattle.icmpv6.specs.Head.{partsOf}
+use Rattle.icmpv6.specs.Head.{headParts}
 use Rattle.packet_length.proofs.Laws.{Between, passed, sized-fits, refused}
-use Rattle.packet_length.specs.Length.{told as lengthTold}
+use Rattle.packet_length.specs.Length.{lengthTold}
 use lib.ListN.{length}
 use native.Mathlib.Omega.{arith}
 use mathlib.Core.Path.{sym, ap, _∙_}
@@ -54,11 +54,11 @@ u32-from-be-requires : tie.Need-u32-from-be-requires
 u32-from-be-requires c κs = search needs
 
 returns : tie.Need-returns
-unfolding partsOf
+unfolding headParts
 returns c = rw (refused _ (c .before .why .given .0 .0) (ap lengthTold (sym (c .before .why .given .1)) ∙ c .before .before .before .check-len .ensures))
 
 returns-2 : tie.Need-returns-2
-unfolding partsOf
+unfolding headParts
 returns-2 c = let f = fits (c .before .before .before .before .before .before .before .before .before .before) in rw (sized-fits _ (f .low) (f .high), c .u32-from-be .ensures, c .before .before .before .before .before .u16-from-be .ensures)
 
 pub head-parts-spec : {M : Type 1} → statement M

@@ -5,7 +5,7 @@ use mathlib.Core.Path.{sym, ap, _∙_}
 use native.Mathlib.Omega.{arith}
 use denote.Ref.{now}
 use lib.ListN.{length}
-use Rattle.packet_length.specs.Length.{told as lengthTold}
+use Rattle.packet_length.specs.Length.{lengthTold}
 use Rattle.packet_length.proofs.Laws.{Between, passed, refused}
 use Rattle.icmpv6_payload_slice.proofs.Laws.{fitting}
 use Rattle.icmpv6_payload_slice.specs.Dispatch.{byBytes, payloadOf}

@@ -2,7 +2,7 @@
 -- Assumes nothing.
 use Rattle.icmpv6.specs.Head.{decodeOf}
 use Rattle.packet_length.proofs.Laws.{Between, passed, sized-fits, refused}
-use Rattle.packet_length.specs.Length.{told as lengthTold}
+use Rattle.packet_length.specs.Length.{lengthTold}
 use lib.ListN.{length}
 use native.Mathlib.Omega.{arith}
 use mathlib.Core.Path.{sym, ap, _∙_}
