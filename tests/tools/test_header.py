@@ -21,7 +21,8 @@ def copied(to):
         elif crate in ("refusal", "ndp_options", "icmpv6_type"):
             shutil.copytree(f"{root}/crates/{crate}/specs", f"{to}/crates/{crate}/specs")
     os.makedirs(to + "/tools")
-    shutil.copy(root + "/tools/header", to + "/tools/header")
+    for file in ("tools/header", "tools/rattle_source.py", "crates.txt"):
+        shutil.copy(f"{root}/{file}", f"{to}/{file}")
 
 
 def seen(to):
