@@ -1,7 +1,9 @@
 -- The values of `answer`, the first field of every struct for C (docs/RULES.md X1). All differ, and none is 0.
 -- Assumes nothing.
 use Prim.Native.Nat.{ℕ}
+use mathlib.Core.Bool.{Bool, true, false, not, _&&_, _||_}
 use mathlib.Core.List.{List, [], _∷_}
+use lib.Dec.{eqb}
 
 abbrev pub REFUSED : ℕ
 REFUSED = 1
@@ -41,6 +43,19 @@ WRITTEN = 10
 -- an option that was read
 abbrev pub PREFIX : ℕ
 PREFIX = 11
+
+-- all of them
+abbrev pub answers : List ℕ
+answers = REFUSED ∷ KNOWN ∷ UNKNOWN ∷ VALID ∷ INVALID ∷ OPTION ∷ END ∷ STOPPED ∷ RECEIVED ∷ WRITTEN ∷ PREFIX ∷ []
+
+-- whether a number is in a list; whether no number stands twice in one
+abbrev pub has : ℕ → List ℕ → Bool
+has n [] = false
+has n (x ∷ l) = eqb n x || has n l
+
+abbrev pub apart : List ℕ → Bool
+apart [] = true
+apart (n ∷ l) = not (has n l) && apart l
 
 -- the values of a refusal where nothing is refused
 abbrev pub none : List ℕ

@@ -5,36 +5,36 @@ ghost use lib.ListN.{length};
 ghost use Rattle.dump.specs.Ends.{Taken·in, Given·all};
 
 // So many bytes were put by a read, or taken by a write.
-pub struct Moved {
+pub(crate) struct Moved {
     bytes: usize,
 }
 
 // None at the end of the input.
-pub enum Taken {
+pub(crate) enum Taken {
     Bytes(Moved),
     Failed,
 }
 
-pub enum Given {
+pub(crate) enum Given {
     All(Moved),
     Failed,
 }
 
 // Where nothing was read or written.
-pub fn none() -> Moved
+pub(crate) fn none() -> Moved
     ensures { λ r. ⌜ r .bytes ≡ 0 ⌝ }
 {
     Moved { bytes: 0 }
 }
 
-pub fn bytes(m: Moved) -> usize
+pub(crate) fn bytes(m: Moved) -> usize
     ensures { λ r. ⌜ r ≡ m .bytes ⌝ }
 {
     m.bytes
 }
 
 // Reads once, to the start of a buffer.
-pub fn take(part: &mut [u8]) -> Taken
+pub(crate) fn take(part: &mut [u8]) -> Taken
     ensures { λ r. ⌜ Taken·in (length (now (part .entry))) r ⌝ }
 {
     let got = libc::read(libc::STDIN_FILENO, part);
@@ -48,7 +48,7 @@ pub fn take(part: &mut [u8]) -> Taken
 }
 
 // Writes a text.
-pub fn give(text: &[u8]) -> Given
+pub(crate) fn give(text: &[u8]) -> Given
     ensures { λ r. ⌜ Given·all (length (now (text .entry))) r ⌝ }
 {
     if !io::write_all(libc::STDOUT_FILENO, text) {

@@ -14,7 +14,7 @@ use output::Written;
 
 // How the listing stands: it goes on with the bytes that are held, or its text is to be handed over first, or more bytes are wanted; the last line is
 // put; or it ends before that.
-pub enum Stage {
+pub(crate) enum Stage {
     Going,
     Full,
     Hungry,
@@ -23,11 +23,11 @@ pub enum Stage {
 }
 
 // Where the listing stands in the bytes that are held: the place of the next record, the records so far, the bytes of text that wait.
-pub struct Progress {
-    pub at: usize,
-    pub count: u64,
-    pub put: usize,
-    pub stage: Stage,
+pub(crate) struct Progress {
+    pub(crate) at: usize,
+    pub(crate) count: u64,
+    pub(crate) put: usize,
+    pub(crate) stage: Stage,
 }
 
 // The same place in another stage.
@@ -150,7 +150,7 @@ fn step(bytes: &[u8], out: &mut [u8], place: u64, ended: bool, s: Progress) -> P
 }
 
 // All whole records of some bytes from a place on, as far as there is room for their text.
-pub fn records(
+pub(crate) fn records(
     bytes: &[u8],
     out: &mut [u8],
     place: u64,
