@@ -1,9 +1,8 @@
--- No two answers are alike, and none is 0: by computation over the list of them, with 0 before it.
+-- No two answers are alike, and none is 0: their list rises from above 0, by computation.
 -- Assumes nothing.
 use mathlib.Core.Bool.{true}
 use mathlib.Core.Path.{_≡_, refl}
-use mathlib.Core.List.{_∷_}
-use Rattle.c_answer.specs.Answer.{answers, apart}
+use Rattle.c_answer.specs.Answer.{answers, rising}
 
-pub told-apart : apart (0 ∷ answers) ≡ true
+pub told-apart : rising 0 answers ≡ true
 told-apart = refl

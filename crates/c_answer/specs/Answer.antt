@@ -1,9 +1,9 @@
 -- The values of `answer`, the first field of every struct for C (docs/RULES.md X1). All differ, and none is 0.
 -- Assumes nothing.
 use Prim.Native.Nat.{ℕ}
-use mathlib.Core.Bool.{Bool, true, false, not, _&&_, _||_}
+use mathlib.Core.Bool.{Bool, true, _&&_}
 use mathlib.Core.List.{List, [], _∷_}
-use lib.Dec.{eqb}
+use lib.Dec.{ltb}
 
 abbrev pub REFUSED : ℕ
 REFUSED = 1
@@ -48,14 +48,10 @@ PREFIX = 11
 abbrev pub answers : List ℕ
 answers = REFUSED ∷ KNOWN ∷ UNKNOWN ∷ VALID ∷ INVALID ∷ OPTION ∷ END ∷ STOPPED ∷ RECEIVED ∷ WRITTEN ∷ PREFIX ∷ []
 
--- whether a number is in a list; whether no number stands twice in one
-abbrev pub has : ℕ → List ℕ → Bool
-has n [] = false
-has n (x ∷ l) = eqb n x || has n l
-
-abbrev pub apart : List ℕ → Bool
-apart [] = true
-apart (n ∷ l) = not (has n l) && apart l
+-- each number of a list above the one before it, the first above n: then no two are alike, and none is n
+abbrev pub rising : ℕ → List ℕ → Bool
+rising n [] = true
+rising n (x ∷ l) = ltb n x && rising x l
 
 -- the values of a refusal where nothing is refused
 abbrev pub none : List ℕ

@@ -10,10 +10,7 @@ use lib.ListN.{length}
 use Rattle.paper.specs.Paper.{gives}
 use Rattle.packet_length.proofs.Laws.{Between}
 use Rattle.message_table.specs.Table.{fixedLen, isNdp}
-use Rattle.icmpv6_headers.specs.declared.neighbor_advertisement_header.NeighborAdvertisementHeader.{NeighborAdvertisementHeader}
-use Rattle.icmpv6_headers.specs.declared.router_advertisement_header.RouterAdvertisementHeader.{RouterAdvertisementHeader}
 use Rattle.icmpv6_type.specs.declared.Icmpv6Type.{Icmpv6Type}
-use Rattle.icmpv6_type.specs.declared.Icmpv6Type.the-variants.{RouterSolicitation, RouterAdvertisement, NeighborSolicitation, NeighborAdvertisement, Redirect}
 use Rattle.icmpv6_type.specs.Value.{kindNumber, typeNumber, codeNumber}
 use Rattle.icmpv6_type.specs.Reserved.{Fits}
 use Rattle.checksum.specs.Running.{Bytes}
@@ -31,14 +28,7 @@ use Rattle.icmpv6_payload_slice.proofs.Agree.{same-options}
 use Rattle.writer.specs.Write.{payloadOptions, packetOf, writeOf}
 use Rattle.writer.proofs.Accepted.{accepted}
 use Rattle.writer.proofs.Sent.{payload-kept, length-is, validates}
-
--- the values of Neighbor Discovery
-pub data Ndp : Icmpv6Type → Type 0 where
-  routerSolicitation : Ndp RouterSolicitation
-  routerAdvertisement : (h : RouterAdvertisementHeader) → Ndp (RouterAdvertisement h)
-  neighborSolicitation : Ndp NeighborSolicitation
-  neighborAdvertisement : (h : NeighborAdvertisementHeader) → Ndp (NeighborAdvertisement h)
-  redirect : Ndp Redirect
+use Rattle.sent_received.specs.Sent.{Ndp, routerSolicitation, routerAdvertisement, neighborSolicitation, neighborAdvertisement, redirect}
 
 -- what the check asks of such a value's head
 record Head (t : Icmpv6Type) : Type 0 where
