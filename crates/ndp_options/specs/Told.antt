@@ -27,7 +27,7 @@ itemTold o = item (optionKindNumber (o .kind)) (o .«option_type» .0) (o .at) (
 abbrev pub judgedTold : Judged → by.Judgement
 judgedTold Over = by.Over
 judgedTold (Bad why) = by.Bad (refusal why)
-judgedTold (Good kind id len) = by.Good (optionKindNumber kind) (id .0) len
+judgedTold (Good found) = by.Good (optionKindNumber (found .kind)) (found .«option_type» .0) (found .len)
 
 abbrev pub stepTold : Step → Told
 stepTold (Handed o next) = handed (itemTold o) (next .at)

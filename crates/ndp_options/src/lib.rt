@@ -1,6 +1,7 @@
 // The option walk of Neighbor Discovery (RFC 4861, section 4.6; docs/RULES.md W1 to W6), as a cursor by value over the option bytes.
 // Port of ndp_options_iterator.rs, with the two endings of a walk told apart: `End` at the end, `Stopped` after a refusal.
 ghost use mathlib.Core.Path.{_≡_};
+ghost use lib.Dec.{eqb};
 ghost use lib.ListN.{drop, take};
 ghost use Rattle.ndp_walk.specs.Judge.{judge};
 ghost use Rattle.ndp_options.specs.Rule.{rule, askedOf, optionKind};
@@ -42,12 +43,25 @@ pub enum Step {
     Stopped,
 }
 
-// What stands at the head of a rest: nothing, no option, or an option of so many bytes.
+// An option at the head of a rest. As a struct its fields lie where those of a Refusal lie, and a step keeps both in the same registers.
+struct Found {
+    kind: NdpOptionKind,
+    option_type: NdpOptionType,
+    len: usize,
+}
+
+// What stands at the head of a rest: nothing, no option, or an option.
 enum Judged {
     Over,
     Bad(Refusal),
-    Good(NdpOptionKind, NdpOptionType, usize),
+    Good(Found),
 }
+
+// The only length of a prefix information option (RFC 4861, section 4.6.2).
+const PREFIX_INFORMATION_LEN: usize = 32;
+
+// The only length of an MTU option (section 4.6.4).
+const MTU_LEN: usize = 8;
 
 fn kind_of(id: NdpOptionType) -> NdpOptionKind
     ensures { λ r. ⌜ optionKindNumber r ≡ optionKind (id .0) ⌝ }
@@ -69,13 +83,26 @@ fn asked_len(id: NdpOptionType, len: usize) -> usize
 {
     let n = id.0;
     match n {
-        3 => 32,
-        5 => 8,
+        3 => PREFIX_INFORMATION_LEN,
+        5 => MTU_LEN,
         _ => len,
     }
 }
 
-// What stands at the head of a rest. The only function that applies the types' own rule.
+// Whether an option of `len` bytes has the length that its type requires. A test of its own: `asked_len` is called for a refusal alone.
+fn fits(id: NdpOptionType, len: usize) -> bool
+    ensures { λ r. ⌜ r ≡ eqb len (askedOf (id .0) len) ⌝ }
+{
+    let n = id.0;
+    match n {
+        3 => len == PREFIX_INFORMATION_LEN,
+        5 => len == MTU_LEN,
+        _ => true,
+    }
+}
+
+// What stands at the head of a rest. The only function that applies the types' own rule. A refusal is made where it is answered, so that an option
+// costs nothing for it.
 fn judge(rest: &[u8]) -> Judged
     ensures { λ r. ⌜ judgedTold r ≡ judge rule (now (rest .entry)) ⌝ }
 {
@@ -92,24 +119,26 @@ fn judge(rest: &[u8]) -> Judged
                 return Judged::Bad(Refusal::ZeroLength { id });
             }
             let len = header.byte_len();
-            let asked = asked_len(id, len);
-            let cut = Refusal::UnexpectedEndOfSlice {
-                id,
-                expected: len,
-                actual: left,
-            };
-            let misfit = Refusal::UnexpectedSize {
-                id,
-                expected: asked,
-                actual: len,
-            };
             if left < len {
-                return Judged::Bad(cut);
+                return Judged::Bad(Refusal::UnexpectedEndOfSlice {
+                    id,
+                    expected: len,
+                    actual: left,
+                });
             }
-            if len != asked {
-                return Judged::Bad(misfit);
+            if fits(id, len) {
+                let kind = kind_of(id);
+                return Judged::Good(Found {
+                    kind,
+                    option_type: id,
+                    len,
+                });
             }
-            Judged::Good(kind_of(id), id, len)
+            Judged::Bad(Refusal::UnexpectedSize {
+                id,
+                expected: asked_len(id, len),
+                actual: len,
+            })
         }
     }
 }
@@ -149,7 +178,10 @@ impl Cursor {
                 let beyond = n + 1;
                 Step::Refused(why, Cursor { at: beyond })
             }
-            Judged::Good(kind, id, len) => {
+            Judged::Good(found) => {
+                let kind = found.kind;
+                let id = found.option_type;
+                let len = found.len;
                 let option = NdpOption {
                     kind,
                     option_type: id,

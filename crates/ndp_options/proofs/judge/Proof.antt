@@ -7,6 +7,7 @@ use Rattle.ndp_option_header.proofs.Read.{HeaderOf, header-read, header-refused
 use native.Mathlib.Omega.{arith}
 use mathlib.Core.Path.{sym, ap, _∙_}
 use borrow.Author.Needs.{needs}
+use borrow.Author.Tests.{eqb-true, eqb-false}
 use Rattle.ndp_options.proofs.judge.Statement.{statement}
 use Rattle.ndp_options.proofs.judge.Tie as tie
 
@@ -31,29 +32,34 @@ returns-2 c = sym (no-units _ _ (header (c .before .before .before .before .befo
 byte-len-requires : tie.Need-byte-len-requires
 byte-len-requires c κs = search needs
 
-asked-len-requires : tie.Need-asked-len-requires
-asked-len-requires c κs = search needs
-
 returns-3 : tie.Need-returns-3
-returns-3 c = rw (c .before .before .byte-len .ensures) (sym (cut-short _ _ (header (c .before .before .before .before .before .before .before .before)) (omega arith) (omega arith)))
+returns-3 c = let len = c .before in rw (len .byte-len .ensures) (sym (cut-short _ _ (header (len .before .before .before .before .before .before)) (omega arith) (omega arith)))
 
-returns-4 : tie.Need-returns-4
-returns-4 c =
-    let call = c .before .before in
-    rw (call .asked-len .ensures, call .before .byte-len .ensures)
-    (sym (other-size _ _ (header (call .before .before .before .before .before .before .before)) (omega arith) (omega arith) (rw (call .asked-len .ensures, call .before .byte-len .ensures) at (c .if4 .taken))))
+fits-requires : tie.Need-fits-requires
+fits-requires c κs = search needs
 
 kind-of-requires : tie.Need-kind-of-requires
 kind-of-requires c κs = search needs
+
+returns-4 : tie.Need-returns-4
+returns-4 c =
+    let tested = c .before .before in
+    let len = tested .before .before in
+    rw (c .kind-of .ensures, len .byte-len .ensures)
+    (sym (its-size _ _ (header (len .before .before .before .before .before .before)) (omega arith) (omega arith) (eqb-true _ _ (rw (len .byte-len .ensures) at (sym (tested .fits2 .ensures) ∙ c .before .if4 .taken)))))
+
+asked-len-requires : tie.Need-asked-len-requires
+asked-len-requires c κs = search needs
 
 returns-5 : tie.Need-returns-5
 returns-5 c = let read = header-refused _ (c .before .before .before .from-slice .ensures) (c .before .why .given .1) in ap Bad (read .1) ∙ sym (known (short (omega arith)))
 
 returns-6 : tie.Need-returns-6
 returns-6 c =
-    let call = c .before .before .before in
-    rw (c .kind-of .ensures, call .before .byte-len .ensures)
-    (sym (its-size _ _ (header (call .before .before .before .before .before .before .before)) (omega arith) (omega arith) (rw (call .asked-len .ensures, call .before .byte-len .ensures) at (c .before .if4 .left))))
+    let tested = c .before .before in
+    let len = tested .before .before in
+    rw (c .asked-len .ensures, len .byte-len .ensures)
+    (sym (other-size _ _ (header (len .before .before .before .before .before .before)) (omega arith) (omega arith) (eqb-false _ _ (rw (len .byte-len .ensures) at (sym (tested .fits2 .ensures) ∙ c .before .if4 .left)))))
 
 pub judge-spec : {M : Type 1} → statement M
 judge-spec =
@@ -65,9 +71,10 @@ judge-spec =
     enum-known-header
     returns-2
     byte-len-requires
-    asked-len-requires
     returns-3
-    returns-4
+    fits-requires
     kind-of-requires
+    returns-4
+    asked-len-requires
     returns-5
     returns-6)

@@ -41,11 +41,14 @@ enum-known-why c = search needs
 add-beyond : tie.Need-add-beyond
 add-beyond c = search needs
 
-enum-known-kind : tie.Need-enum-known-kind
-enum-known-kind c = search needs
+enum-known-found : tie.Need-enum-known-found
+enum-known-found c = search needs
 
 add-next : tie.Need-add-next
-add-next c = omega (arith, fitting rule _ (sym (found (c .before .before .before)) ∙ ap judgedTold (c .before .kind .given .1)), length-drop (c .before .before .before .before .before .before .before .args .self .at) (c .before .before .before .before .before .before .before .args .options .now))
+add-next c =
+    let judged = c .before .before .before .before in
+    let args = judged .before .before .before .before .args in
+    omega (arith, fitting rule _ (sym (found judged) ∙ ap judgedTold (c .before .before .found .given .1)), length-drop (args .self .at) (args .options .now))
 
 returns-2 : tie.Need-returns-2
 returns-2 c = sym (within _ _ _ (omega arith) (sym (found (c .before .before)) ∙ ap judgedTold (c .enum-told .given .1)))
@@ -54,7 +57,7 @@ returns-3 : tie.Need-returns-3
 returns-3 c = sym (within _ _ _ (omega arith) (sym (found (c .before .before .before)) ∙ ap judgedTold (c .before .why .given .1)))
 
 returns-4 : tie.Need-returns-4
-returns-4 c = sym (within _ _ _ (omega arith) (sym (found (c .before .before .before)) ∙ ap judgedTold (c .before .kind .given .1)))
+returns-4 c = sym (within _ _ _ (omega arith) (sym (found (c .before .before .before .before)) ∙ ap judgedTold (c .before .before .found .given .1)))
 
 pub step-spec : {M : Type 1} → statement M
 step-spec =
@@ -68,7 +71,7 @@ step-spec =
     enum-told
     enum-known-why
     add-beyond
-    enum-known-kind
+    enum-known-found
     add-next
     returns-2
     returns-3
