@@ -156,11 +156,10 @@ impl Cursor {
         ensures { λ r. ⌜ now r ≡ drop (self .at) (now (options .entry)) ⌝ }
     {
         let from = self.at;
-        if from <= options.len() {
-            &options[from..]
-        } else {
-            &options[..0]
+        if options.len() < from {
+            return &options[..0];
         }
+        &options[from..]
     }
 
     // What stands at the cursor, and the next cursor.

@@ -58,10 +58,8 @@ module _ (t : Icmpv6Type) (s : List ℕ) where
         clean e = rest ∙ rw (← given, ← e)
 
   -- what was dispatched says where the options are
-  pub dispatched : (m : Icmpv6PayloadSlice) → payloadTold (Payload m) ≡ byValue t s → (m .«options_at» ≤ length s) × (drop (m .«options_at») s ≡ payloadOptions t s)
-  dispatched m e =
-      let h = placed 0 (kindNumber t) s {m = m} (omega arith) e in
-      (h .within, ap (λ (i : ℕ). drop i s) (h .options))
+  pub dispatched : (m : Icmpv6PayloadSlice) → payloadTold (Payload m) ≡ byValue t s → drop (m .«options_at») s ≡ payloadOptions t s
+  dispatched m e = ap (λ (i : ℕ). drop i s) (placed 0 (kindNumber t) s {m = m} (omega arith) e .options)
 
   -- what passed every test is within the limit
   pub within : gives [] ≡ sendableOf t s → length s ≤ 65527

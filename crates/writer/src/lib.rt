@@ -8,6 +8,7 @@ use icmpv6_payload_slice::Icmpv6PayloadSlice;
 use icmpv6_payload_slice::PayloadRead;
 use icmpv6_type::Icmpv6Type;
 use ndp_option_list::Counted;
+use ndp_options::Cursor;
 use output::Written;
 use refusal::Refusal;
 
@@ -52,8 +53,11 @@ fn check(icmp_type: Icmpv6Type, payload: &[u8]) -> Sendable
     match Icmpv6PayloadSlice::from_slice(icmp_type, payload) {
         PayloadRead::Refused(why) => Sendable::Refused(why),
         PayloadRead::Payload(part) => {
-            let at = part.options_at;
-            match ndp_option_list::count(&payload[at..]) {
+            // Its rest, and not a part of the payload, whose length the compiled walk would take anew at each step.
+            let start = Cursor {
+                at: part.options_at,
+            };
+            match ndp_option_list::count(start.rest(payload)) {
                 Counted::All(_) => Sendable::Yes,
                 Counted::Refused(why, _) => Sendable::Refused(why),
             }

@@ -1,9 +1,7 @@
 -- `check` meets its contract: each test is the definition's, in its order, and each answer of a callee is a case of it.
 -- Assumes nothing.
-use Prim.Native.Nat.{_≤_}
 use mathlib.Core.Path.{_≡_, sym, ap, _∙_}
-use lib.ListN.{length, drop}
-use Rattle.paper.proofs.Rest.{rest-is}
+use lib.ListN.{drop}
 use Rattle.writer.specs.Write.{payloadOptions}
 use denote.Ref.{now}
 use Rattle.ndp_option_list.specs.Whole.{countOf}
@@ -42,23 +40,16 @@ enum-known-why c = search needs
 enum-known-part : tie.Need-enum-known-part
 enum-known-part c = search needs
 
--- where the options are
+-- which bytes the options are
 there : (c : tie.After-part) →
     let a = c .before .before .before .before .before .before .before .args in
-    let m = c .part .given .0 .0 in
-    (m .«options_at» ≤ length (now (a .payload))) × (drop (m .«options_at») (now (a .payload)) ≡ payloadOptions (a .icmp-type) (now (a .payload)))
+    drop (c .part .given .0 .0 .«options_at») (now (a .payload)) ≡ payloadOptions (a .icmp-type) (now (a .payload))
 there c =
     let a = c .before .before .before .before .before .before .before .args in
     dispatched (a .icmp-type) (now (a .payload)) (c .part .given .0 .0) (ap payloadTold (sym (c .part .given .1)) ∙ c .before .before .from-slice .ensures)
 
-sub-count : tie.Need-sub-count
-sub-count c = there (c .before) .0
-
-part-count-start : tie.Need-part-count-start
-part-count-start c = there (c .before) .0
-
-part-count-end : tie.Need-part-count-end
-part-count-end c = search needs
+rest-requires : tie.Need-rest-requires
+rest-requires c κs = search needs
 
 count-requires : tie.Need-count-requires
 count-requires c κs = search needs
@@ -83,7 +74,7 @@ returns-4 c = let k = c .before .before in
     let a = n .before .before .args in
     let m = p .part .given .0 .0 in
     let given = ap payloadTold (sym (p .part .given .1)) ∙ f .from-slice .ensures in
-    let walked = k .count .ensures ∙ ap countOf (rest-is (now (a .payload)) (m .«options_at») ∙ there p .1) in
+    let walked = k .count .ensures ∙ ap countOf (k .before .rest .ensures ∙ there p) in
     sym (clean (a .icmp-type) (now (a .payload)) (sym (n .names-known-pair .ensures) ∙ f .before .before .if1 .left) (f .before .if2 .left) m given (c .enum-told .given .0 .0) (ap countTold (sym (c .enum-told .given .1)) ∙ walked))
 
 returns-5 : tie.Need-returns-5
@@ -94,7 +85,7 @@ returns-5 c = let k = c .before .before .before in
     let a = n .before .before .args in
     let m = p .part .given .0 .0 in
     let given = ap payloadTold (sym (p .part .given .1)) ∙ f .from-slice .ensures in
-    let walked = k .count .ensures ∙ ap countOf (rest-is (now (a .payload)) (m .«options_at») ∙ there p .1) in
+    let walked = k .count .ensures ∙ ap countOf (k .before .rest .ensures ∙ there p) in
     sym (no-clean-walk (a .icmp-type) (now (a .payload)) (sym (n .names-known-pair .ensures) ∙ f .before .before .if1 .left) (f .before .if2 .left) m given (c .before .why2 .given .0 .1 .0) (c .before .why2 .given .0 .0) (ap countTold (sym (c .before .why2 .given .1)) ∙ walked))
 
 pub check-spec : {M : Type 1} → statement M
@@ -109,9 +100,7 @@ check-spec =
     from-slice-requires
     enum-known-why
     enum-known-part
-    sub-count
-    part-count-start
-    part-count-end
+    rest-requires
     count-requires
     enum-told
     enum-known-why-2

@@ -8,6 +8,12 @@ use Rattle.paper.proofs.Rest.{rest-is}
 use Rattle.ndp_options.proofs.Cursor.rest.Statement.{statement}
 use Rattle.ndp_options.proofs.Cursor.rest.Tie as tie
 
+slice-aggregate-result : tie.Need-slice-aggregate-result
+slice-aggregate-result c = search needs
+
+returns : tie.Need-returns
+returns c = sym (drop-of-length-le (c .before .before .args .options .now) (le-of-lt (c .before .if1 .taken)))
+
 sub-result : tie.Need-sub-result
 sub-result c = search needs
 
@@ -17,22 +23,16 @@ part-result-start c = search needs
 part-result-end : tie.Need-part-result-end
 part-result-end c = search needs
 
-slice-aggregate-result : tie.Need-slice-aggregate-result
-slice-aggregate-result c = search needs
-
-returns : tie.Need-returns
-returns c = rw rest-is
-
 returns-2 : tie.Need-returns-2
-returns-2 c = sym (drop-of-length-le (c .before .before .args .options .now) (le-of-lt (c .before .if1 .left)))
+returns-2 c = rw rest-is
 
 pub rest-spec : {M : Type 1} → statement M
 rest-spec =
     tie.close
     (tie.spec
+    slice-aggregate-result
+    returns
     sub-result
     part-result-start
     part-result-end
-    slice-aggregate-result
-    returns
     returns-2)
