@@ -41,11 +41,11 @@ pub dispatch-low : (packet : List ℕ) → byBytes packet .number ≤ 4
 unfolding byBytes
 dispatch-low packet = by (fits (length packet)) refl
   where
-    by : (b : Bool) → fits (length packet) ≡ b → sized (length packet) (payloadOf 8 (kindAt packet) packet) .number ≤ 4
+    by : (b : Bool) → fits (length packet) ≡ b → sized (length packet) (payloadOf 8 (kindAt packet) (length packet)) .number ≤ 4
     by true e =
         let h = fits-or (length packet) e in
-        rw (sized-fits (length packet) (h .low) (h .high)) (given-or-4 8 (kindAt packet) packet)
-    by false e = let h = misfit (length packet) (payloadOf 8 (kindAt packet) packet) e in omega (arith, h .1)
+        rw (sized-fits (length packet) (h .low) (h .high)) (given-or-4 8 (kindAt packet) (length packet))
+    by false e = let h = misfit (length packet) (payloadOf 8 (kindAt packet) (length packet)) e in omega (arith, h .1)
 
 -- the hop limit is the first reason
 pub far-reason : (hops : ℕ) (source destination packet : List ℕ)

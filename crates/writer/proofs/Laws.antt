@@ -60,7 +60,7 @@ module _ (t : Icmpv6Type) (s : List ℕ) where
   -- what was dispatched says where the options are
   pub dispatched : (m : Icmpv6PayloadSlice) → payloadTold (Payload m) ≡ byValue t s → (m .«options_at» ≤ length s) × (drop (m .«options_at») s ≡ payloadOptions t s)
   dispatched m e =
-      let h = placed 0 (kindNumber t) s {m = m} (omega arith) e in
+      let h = placed 0 (kindNumber t) (length s) {m = m} (omega arith) e in
       (h .within, ap (λ (i : ℕ). drop i s) (h .options))
 
   -- what passed every test is within the limit
