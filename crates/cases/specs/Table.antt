@@ -4,7 +4,7 @@ use Prim.Native.Nat.{ℕ}
 use mathlib.Core.Path.{_≡_}
 use mathlib.Core.Bool.{true}
 use mathlib.Core.List.{List, [], _∷_, _++_}
-use lib.ListN.{replicate}
+use lib.ListN.{length, replicate}
 use Rattle.paper.specs.Paper.{Paper, refuses, gives}
 use Rattle.icmpv6.specs.Head.{decodeOf}
 use Rattle.ndp_walk.specs.Walk.{Walk, clean, refused}
@@ -33,7 +33,7 @@ Claim (steps options at answer) = stepOf options at ≡ answer
 Claim (reads option answer information) = prefixOf option ≡ prefix.toldWith answer information
 Claim (rewrites option bytes) = bytesOf (informationAt option) ≡ bytes
 Claim (validates source destination packet answer) = verdictOf source destination packet ≡ answer
-Claim (dispatches kind payload answer) = payloadOf 0 kind payload ≡ answer
+Claim (dispatches kind payload answer) = payloadOf 0 kind (length payload) ≡ answer
 
 abbrev pub zeros : ℕ → List ℕ
 zeros n = replicate n 0

@@ -62,7 +62,7 @@ fn say_kind(kind: Icmpv6PayloadKind) {
         Icmpv6PayloadKind::EchoRequest => say(b" EchoRequest"),
         Icmpv6PayloadKind::EchoReply => say(b" EchoReply"),
         Icmpv6PayloadKind::RouterSolicitation => say(b" RouterSolicitation"),
-        Icmpv6PayloadKind::RouterAdvertisement(_) => say(b" RouterAdvertisement"),
+        Icmpv6PayloadKind::RouterAdvertisement => say(b" RouterAdvertisement"),
         Icmpv6PayloadKind::NeighborSolicitation => say(b" NeighborSolicitation"),
         Icmpv6PayloadKind::NeighborAdvertisement => say(b" NeighborAdvertisement"),
         Icmpv6PayloadKind::Redirect => say(b" Redirect"),

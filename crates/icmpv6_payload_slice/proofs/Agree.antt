@@ -47,21 +47,20 @@ decoded-fits n x v = by (ltb n 8) (ltb limit n) refl refl
 abbrev pub behindHead : Paper → Paper
 behindHead q = cond (eqb (q .number) 0) (gives ((8 + getD (q .values) 0 0) ∷ (8 + getD (q .values) 1 0) ∷ drop 2 (q .values))) q
 
--- a dispatch of a packet is that of its payload, with the places moved
-pub moved : (k : ℕ) (p : List ℕ) → 8 ≤ length p → payloadOf 8 k p ≡ behindHead (payloadOf 0 k (drop 8 p))
+-- a dispatch of a packet of n bytes is that of its payload, with the places moved
+pub moved : (k n : ℕ) → 8 ≤ n → payloadOf 8 k n ≡ behindHead (payloadOf 0 k (n - 8))
 unfolding payloadOf
-moved k p h =
-    let all : length (drop 8 p) ≡ length p - 8 = length-drop 8 p in
-    let present : length (drop 8 p) - 0 ≡ length p - 8 = omega (arith, all) in
+moved k n h =
+    let present : n - 8 - 0 ≡ n - 8 = omega arith in
     let first : 0 + fixedLen k ≡ fixedLen k = omega arith in
-    rw (present, all, first) (by (ltb (length p - 8) (fixedLen k)) (isNdp k))
+    rw (present, first) (by (ltb (n - 8) (fixedLen k)) (isNdp k))
   where
     by : (a b : Bool) →
-        cond a (refuses 4 (fixedLen k ∷ (length p - 8) ∷ [])) (gives (8 ∷ cond b (8 + fixedLen k) (length p) ∷ payloadKind k (drop 8 p)))
-        ≡ behindHead (cond a (refuses 4 (fixedLen k ∷ (length p - 8) ∷ [])) (gives (0 ∷ cond b (fixedLen k) (length p - 8) ∷ payloadKind k (drop 8 p))))
+        cond a (refuses 4 (fixedLen k ∷ (n - 8) ∷ [])) (gives (8 ∷ cond b (8 + fixedLen k) n ∷ payloadKind k ∷ []))
+        ≡ behindHead (cond a (refuses 4 (fixedLen k ∷ (n - 8) ∷ [])) (gives (0 ∷ cond b (fixedLen k) (n - 8) ∷ payloadKind k ∷ [])))
     by true b = refl
     by false true = refl
-    by false false = let e : 8 + (length p - 8) ≡ length p = omega arith in rw e
+    by false false = let e : 8 + (n - 8) ≡ n = omega arith in rw e
 
 -- and its options are those of the payload
 pub same-options : (k : ℕ) (p : List ℕ) → 8 ≤ length p → optionsIn 8 k p ≡ optionsIn 0 k (drop 8 p)
@@ -78,26 +77,26 @@ agree p h e =
     let fits = decoded-fits (length p) _ (headerTold h) e in
     let told = sym (ap (λ (x : Paper). drop 1 (x .values)) (sym (sized-fits (length p) (fits .low) (fits .high) _) ∙ e)) in
     sized-fits (length p) (fits .low) (fits .high) _
-    ∙ ap (λ (k : ℕ). payloadOf 8 k p) (sym (kind-read (getD p 0 0) (getD p 1 0) (fieldsAt p) (h .«icmp_type») told))
-    ∙ moved (kindNumber (h .«icmp_type»)) p (fits .low)
+    ∙ ap (λ (k : ℕ). payloadOf 8 k (length p)) (sym (kind-read (getD p 0 0) (getD p 1 0) (fieldsAt p) (h .«icmp_type») told))
+    ∙ moved (kindNumber (h .«icmp_type»)) (length p) (fits .low)
+    ∙ ap (λ (n : ℕ). behindHead (payloadOf 0 (kindNumber (h .«icmp_type»)) n)) (sym (length-drop 8 p))
 
 -- an Unknown is Raw by its value, whatever it names
 pub unknown-raw : (k c w : ℕ) (s : List ℕ) → byValue (Unknown k c w) s ≡ gives (0 ∷ length s ∷ 0 ∷ [])
 unfolding fixedLen known
-unknown-raw k c w s = whole 0 0 s (omega arith)
+unknown-raw k c w s = whole 0 0 (length s) (omega arith)
 
 -- and where it names a known pair, its bytes are dispatched as that pair's, whatever stands behind the head
 module _ (k c w sum : ℕ) (s : List ℕ) (named : known k c ≡ true) (room : length s ≤ 4294967287) where
   abbrev packet : List ℕ
   packet = encodeOf (record { «icmp_type» = Unknown k c w; checksum = sum }) ++ s
 
-  pub misnamed-dispatched : byBytes packet ≡ payloadOf 8 k packet
+  pub misnamed-dispatched : byBytes packet ≡ payloadOf 8 k (length packet)
   misnamed-dispatched = known-pair packet (record { low = omega arith; high = omega arith }) named
 
   -- so where the fixed part is there they are of the structured kind, which is not Raw
-  pub misnamed-structured : fixedLen k ≤ length s → (byBytes packet ≡ gives (8 ∷ optionsAt 8 k (length packet) ∷ payloadKind k s)) × (getD (payloadKind k s) 0 0 ≡ k) × (k ≡ 0 → ⊥)
+  pub misnamed-structured : fixedLen k ≤ length s → (byBytes packet ≡ gives (8 ∷ optionsAt 8 k (length packet) ∷ k ∷ [])) × (k ≡ 0 → ⊥)
   misnamed-structured present = (
-    misnamed-dispatched ∙ whole 8 k packet (omega arith),
-    rw (known-0 k c named),
+    misnamed-dispatched ∙ whole 8 k (length packet) (omega arith) ∙ rw (known-0 k c named),
     λ e. not-0 (view k c named) (sym e),
   )

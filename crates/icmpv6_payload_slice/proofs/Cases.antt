@@ -35,7 +35,7 @@ cases =
     ∷ case (byValue (Unknown 135 0 0) (zeros 15)) (gives (0 ∷ 15 ∷ 0 ∷ []))
     -- the other fixed parts
     ∷ case (byBytes (packet 133 0 [])) (gives (8 ∷ 8 ∷ 133 ∷ []))
-    ∷ case (byBytes (packet 134 0 (0 ∷ 0 ∷ 1 ∷ 0 ∷ 0 ∷ 0 ∷ 0 ∷ 2 ∷ []))) (gives (8 ∷ 16 ∷ 134 ∷ 256 ∷ 2 ∷ []))
+    ∷ case (byBytes (packet 134 0 (zeros 8))) (gives (8 ∷ 16 ∷ 134 ∷ []))
     ∷ case (byBytes (packet 134 0 (zeros 7))) (refuses 4 (8 ∷ 7 ∷ []))
     ∷ case (byValue Redirect (zeros 31)) (refuses 4 (32 ∷ 31 ∷ []))
     ∷ case (byValue Redirect (zeros 40)) (gives (0 ∷ 32 ∷ 137 ∷ []))

@@ -4,15 +4,14 @@ ghost use mathlib.Core.Path.{_≡_};
 ghost use Prim.Native.Nat.{_+_, _<_, _≤_};
 ghost use lib.ListN.{length, drop};
 ghost use mathlib.Core.Bool.{cond};
-ghost use Rattle.message_table.specs.Table.{fixedLen, isNdp};
-ghost use Rattle.icmpv6_payload_slice.specs.Dispatch.{payloadKind, kindTold, payloadKindNumber, payloadTold, payloadOf, kindAt, byValue, byBytes};
+ghost use Rattle.message_table.specs.Table.{isNdp};
+ghost use Rattle.icmpv6_payload_slice.specs.Dispatch.{payloadKind, payloadKindNumber, payloadTold, payloadOf, kindAt, byValue, byBytes};
 ghost use Rattle.icmpv6_payload_slice.specs.Parts.{addresses, addressPart};
-use icmpv6_payload::router_advertisement_payload::RouterAdvertisementPayload;
 use icmpv6_type::Icmpv6Type;
 use packet_length::PacketLength;
 use refusal::Refusal;
 
-// The kind of a payload, with the numbers of its fixed part.
+// The kind of a payload. What its fixed part says is read from the payload (`icmpv6_payload`).
 pub enum Icmpv6PayloadKind {
     Raw,
     DestinationUnreachable,
@@ -22,7 +21,7 @@ pub enum Icmpv6PayloadKind {
     EchoRequest,
     EchoReply,
     RouterSolicitation,
-    RouterAdvertisement(RouterAdvertisementPayload),
+    RouterAdvertisement,
     NeighborSolicitation,
     NeighborAdvertisement,
     Redirect,
@@ -51,10 +50,8 @@ const HEAD_LEN: usize = 8;
 // The length of an IPv6 address.
 const IPV6_ADDRESS_LEN: usize = 16;
 
-// The kind of a payload whose fixed part is there.
-fn kind_of(type_u8: u8, payload: &[u8]) -> Icmpv6PayloadKind
-    requires { ⌜ fixedLen «type_u8» ≤ length (now payload) ⌝ }
-    ensures { λ r. ⌜ kindTold r ≡ payloadKind «type_u8» (now (payload .entry)) ⌝ }
+fn kind_of(type_u8: u8) -> Icmpv6PayloadKind
+    ensures { λ r. ⌜ payloadKindNumber r ≡ payloadKind «type_u8» ⌝ }
 {
     match type_u8 {
         1 => Icmpv6PayloadKind::DestinationUnreachable,
@@ -64,16 +61,7 @@ fn kind_of(type_u8: u8, payload: &[u8]) -> Icmpv6PayloadKind
         128 => Icmpv6PayloadKind::EchoRequest,
         129 => Icmpv6PayloadKind::EchoReply,
         133 => Icmpv6PayloadKind::RouterSolicitation,
-        134 => Icmpv6PayloadKind::RouterAdvertisement(RouterAdvertisementPayload::from_bytes([
-            payload[0],
-            payload[1],
-            payload[2],
-            payload[3],
-            payload[4],
-            payload[5],
-            payload[6],
-            payload[7],
-        ])),
+        134 => Icmpv6PayloadKind::RouterAdvertisement,
         135 => Icmpv6PayloadKind::NeighborSolicitation,
         136 => Icmpv6PayloadKind::NeighborAdvertisement,
         137 => Icmpv6PayloadKind::Redirect,
@@ -92,20 +80,20 @@ fn options_place(type_u8: u8, fixed_end: usize, length: usize) -> usize
     }
 }
 
-// The message of a type whose payload begins at a place: Raw of a type that the table does not have.
-fn from_type(type_u8: u8, bytes: &[u8], payload_at: usize) -> PayloadRead
-    requires { ⌜ «payload_at» ≤ length (now bytes) ⌝ }
-    ensures { λ r. ⌜ payloadTold r ≡ payloadOf «payload_at» «type_u8» (now (bytes .entry)) ⌝ }
+// The message of a type in so many bytes, whose payload begins at a place: Raw of a type that the table does not have.
+fn from_type(type_u8: u8, length: usize, payload_at: usize) -> PayloadRead
+    requires { ⌜ «payload_at» ≤ length ⌝ }
+    ensures { λ r. ⌜ payloadTold r ≡ payloadOf «payload_at» «type_u8» length ⌝ }
 {
     let needed = message_table::fixed_len(type_u8);
-    let present = bytes.len() - payload_at;
+    let present = length - payload_at;
     if present < needed {
         return PayloadRead::Refused(Refusal::ShortFixedPart { needed, present });
     }
     PayloadRead::Payload(Icmpv6PayloadSlice {
-        kind: kind_of(type_u8, &bytes[payload_at..]),
+        kind: kind_of(type_u8),
         payload_at,
-        options_at: options_place(type_u8, payload_at + needed, bytes.len()),
+        options_at: options_place(type_u8, payload_at + needed, length),
     })
 }
 
@@ -167,7 +155,7 @@ impl Icmpv6PayloadKind {
             Icmpv6PayloadKind::EchoRequest => 128,
             Icmpv6PayloadKind::EchoReply => 129,
             Icmpv6PayloadKind::RouterSolicitation => 133,
-            Icmpv6PayloadKind::RouterAdvertisement(_) => 134,
+            Icmpv6PayloadKind::RouterAdvertisement => 134,
             Icmpv6PayloadKind::NeighborSolicitation => 135,
             Icmpv6PayloadKind::NeighborAdvertisement => 136,
             Icmpv6PayloadKind::Redirect => 137,
@@ -180,7 +168,7 @@ impl Icmpv6PayloadSlice {
     pub fn from_slice(icmp_type: Icmpv6Type, payload: &[u8]) -> PayloadRead
         ensures { λ r. ⌜ payloadTold r ≡ byValue «icmp_type» (now (payload .entry)) ⌝ }
     {
-        from_type(icmp_type.kind_u8(), payload, 0)
+        from_type(icmp_type.kind_u8(), payload.len(), 0)
     }
 
     // By the bytes of a packet: its type and code. Places count from the packet's first byte.
@@ -189,7 +177,7 @@ impl Icmpv6PayloadSlice {
     {
         match packet_length::check_len(packet.len()) {
             PacketLength::Refused(why) => PayloadRead::Refused(why),
-            PacketLength::Fits => from_type(kind_at(packet), packet, HEAD_LEN),
+            PacketLength::Fits => from_type(kind_at(packet), packet.len(), HEAD_LEN),
         }
     }
 

@@ -108,5 +108,5 @@ module _ (hop : ℕ) (source destination p : List ℕ) (x : PayloadRead) (e : pa
       by false k =
           let f = has-head-4 arm n in
           let none : fixedLen 0 ≤ length p - 8 = omega (arith, fixed-outside 0 refl) in
-          let is : byBytes p .number ≡ 0 = ap (λ (q : Paper). q .number) (other-pair p f k ∙ whole 8 0 p none) in
+          let is : byBytes p .number ≡ 0 = ap (λ (q : Paper). q .number) (other-pair p f k ∙ whole 8 0 (length p) none) in
           absurd (omega (arith, is, short-refused p f x e arm))

@@ -3,20 +3,25 @@
 use Prim.Native.Nat.{ℕ, _<_, _≤_}
 use mathlib.Core.Path.{_≡_, refl, ap}
 use mathlib.Core.Bool.{Bool, true, false, false≢true, cond, not, _&&_}
-use mathlib.Core.List.{List}
+use mathlib.Core.List.{List, []}
 use native.Mathlib.Omega.{arith}
 use lib.Dec.{eqb}
 use lib.ListN.{length, getD}
 use borrow.Author.Tests.{eqb-true, eqb-false, not-true}
-use Rattle.paper.specs.Paper.{Paper}
+use Rattle.paper.specs.Paper.{Paper, gives}
+use Rattle.refusal.specs.declared.Refusal.{Refusal}
+use Rattle.refusal.specs.Paper.{refusal}
+use Rattle.refusal.proofs.Paper.{refusal-numbered}
 use Rattle.message_table.specs.Table.{isNdp}
 use Rattle.packet_length.specs.Length.{fits, sized}
-use Rattle.packet_length.proofs.Laws.{Between, sized-fits, fits-or, misfit}
+use Rattle.packet_length.proofs.Laws.{Between, sized-fits, fits-or, misfit, refused, refused-misfit}
 use Rattle.icmpv6_payload_slice.specs.Dispatch.{payloadOf, kindAt, byBytes}
 use Rattle.icmpv6_payload_slice.proofs.Laws.{given-or-4}
+use Rattle.checksum.specs.Icmpv6.{verdictOf}
 use Rattle.receive.specs.Reasons.{Reason, firstOf}
 use Rattle.receive.specs.Rules.{ownOf}
 use Rattle.receive.specs.Receive.{optionReasons, reasons, reasonOf, notReceived, answerBy}
+use Rattle.receive.specs.Told.{PacketJudgement, judgedOf}
 use Rattle.receive.proofs.First.{Numbered}
 
 -- the number of a reason is told, and no dispatch is refused 11
@@ -41,20 +46,27 @@ pub dispatch-low : (packet : List ℕ) → byBytes packet .number ≤ 4
 unfolding byBytes
 dispatch-low packet = by (fits (length packet)) refl
   where
-    by : (b : Bool) → fits (length packet) ≡ b → sized (length packet) (payloadOf 8 (kindAt packet) packet) .number ≤ 4
+    by : (b : Bool) → fits (length packet) ≡ b → sized (length packet) (payloadOf 8 (kindAt packet) (length packet)) .number ≤ 4
     by true e =
         let h = fits-or (length packet) e in
-        rw (sized-fits (length packet) (h .low) (h .high)) (given-or-4 8 (kindAt packet) packet)
-    by false e = let h = misfit (length packet) (payloadOf 8 (kindAt packet) packet) e in omega (arith, h .1)
+        rw (sized-fits (length packet) (h .low) (h .high)) (given-or-4 8 (kindAt packet) (length packet))
+    by false e = let h = misfit (length packet) (payloadOf 8 (kindAt packet) (length packet)) e in omega (arith, h .1)
+
+-- a length that is refused is all that is told of a packet: there is no verdict on it, and no reason
+pub refused-judged : (hops : ℕ) (source destination packet : List ℕ) (why : Refusal) → refusal why ≡ sized (length packet) (gives [])
+    → judgedOf hops source destination packet ≡ record { opened = refusal why; valid = false; reason = 0 }
+unfolding byBytes verdictOf reasonOf
+refused-judged hops source destination packet why q =
+    let same = refused (length packet) why q in rw (same, same, refused-misfit (length packet) why q, refusal-numbered why)
 
 -- the hop limit is the first reason
 pub far-reason : (hops : ℕ) (source destination packet : List ℕ)
-    → (fits (length packet) && (isNdp (getD packet 0 0) && not (eqb hops 255))) ≡ true
+    → (not (eqb hops 255) && (fits (length packet) && isNdp (getD packet 0 0))) ≡ true
     → reasonOf hops source destination packet ≡ 1
 unfolding reasonOf reasons firstOf
 far-reason hops source destination packet e =
-    let far = and-right (fits (length packet)) _ e in
-    simp (and-left (fits (length packet)) _ e, and-left (isNdp (getD packet 0 0)) _ far, not-true (eqb hops 255) (and-right (isNdp (getD packet 0 0)) _ far))
+    let some = and-right (not (eqb hops 255)) _ e in
+    simp (not-true (eqb hops 255) (and-left (not (eqb hops 255)) _ e), and-left (fits (length packet)) _ some, and-right (fits (length packet)) _ some)
   where
     and-left : (a b : Bool) → (a && b) ≡ true → a ≡ true
     and-left true b e = refl

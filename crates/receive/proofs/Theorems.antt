@@ -40,7 +40,7 @@ module _ (hops : ℕ) (source destination packet : List ℕ) where
   -- a length that does not fit is refused for that
   misfitted : fits (length packet) ≡ false → (0 < receiveOf hops source destination packet .number) × (receiveOf hops source destination packet .number < 3)
   unfolding receiveOf reasonOf byBytes
-  misfitted f = rw f (misfit (length packet) (payloadOf 8 (kindAt packet) packet) f)
+  misfitted f = rw f (misfit (length packet) (payloadOf 8 (kindAt packet) (length packet)) f)
 
   -- the fixed part is there where no reason holds
   pub not-lacking : Between (length packet) → None (reasons hops source destination packet) → fixedLen (kindAt packet) ≤ length packet - 8
@@ -49,11 +49,11 @@ module _ (hops : ℕ) (source destination packet : List ℕ) where
     where
       by : (x : Bool) → isNdp (getD packet 0 0) ≡ x → None (cond x (reason 1 (not (eqb hops 255)) ∷ reason 2 (not (isSound source destination packet)) ∷ reason 3 (not (eqb (getD packet 1 0) 0)) ∷ reason 4 (eqb (byBytes packet .number) 4) ∷ optionReasons (getD packet 0 0) (packetOptions packet) source destination packet) (reason 2 (not (isSound source destination packet)) ∷ [])) → fixedLen (kindAt packet) ≤ length packet - 8
       by true e h =
-          not-short 8 (kindAt packet) packet (byBytes packet) (λ z. eqb-false (byBytes packet .number) 4 (h .1 .1 .1 .0) z) (sym (fitting packet b)) .0
+          not-short 8 (kindAt packet) (length packet) (byBytes packet) (λ z. eqb-false (byBytes packet .number) 4 (h .1 .1 .1 .0) z) (sym (fitting packet b)) .0
       by false e h = omega (arith, other-kind packet e)
 
   pub opened-whole : Between (length packet) → fixedLen (kindAt packet) ≤ length packet - 8 → byBytes packet ≡ accepted packet
-  opened-whole b h = fitting packet b ∙ whole 8 (kindAt packet) packet h
+  opened-whole b h = fitting packet b ∙ whole 8 (kindAt packet) (length packet) h
 
   -- nothing else is answered without a refusal
   pub accepting : receiveOf hops source destination packet .number ≡ 0 → Between (length packet) × None (reasons hops source destination packet)
@@ -90,7 +90,7 @@ module _ (hops : ℕ) (source destination packet : List ℕ) where
   handed-on e =
       let h = accepting e in
       let is = accepted-exactly .1 h in
-      rw is (options-within 8 (kindAt packet) packet (h .0 .low) (not-lacking (h .0) (h .1)), clean-options (h .1))
+      rw is (options-within 8 (kindAt packet) (length packet) (h .0 .low) (not-lacking (h .0) (h .1)), clean-options (h .1))
 
   -- It is refused for a reason exactly if that is the first of them that holds.
   pub refused-exactly : (n : ℕ) → (receiveOf hops source destination packet ≡ notReceived n) ↔ (Between (length packet) × First n (reasons hops source destination packet))

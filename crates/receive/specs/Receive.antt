@@ -53,7 +53,7 @@ reasonOf hops source destination packet = cond (fits (length packet)) (firstOf (
 
 -- what a packet is that is accepted, and where its parts are
 abbrev pub accepted : List ℕ → Paper
-accepted packet = partsOf 8 (kindAt packet) packet
+accepted packet = partsOf 8 (kindAt packet) (length packet)
 
 abbrev pub notReceived : ℕ → Paper
 notReceived n = refuses 11 (n ∷ [])

@@ -184,31 +184,16 @@ fn first_reason(
     }
 }
 
-// The reason against a packet that was opened and summed; none of one whose length is refused.
-fn reason_of(
-    opened: PayloadRead,
-    valid: bool,
-    packet: &[u8],
-    hop_limit: u8,
-    source: &[u8; 16],
-    destination: &[u8; 16],
-) -> u8
-    requires { ⌜ (payloadTold opened ≡ byBytes (now packet)) × (valid ≡ isSound (now source) (now destination) (now packet)) ⌝ }
-    ensures { λ r. ⌜ r ≡ reasonOf «hop_limit» (now (source .entry)) (now (destination .entry)) (now (packet .entry)) ⌝ }
-{
-    match check_len(packet.len()) {
-        PacketLength::Refused(_) => 0,
-        PacketLength::Fits => first_reason(opened, valid, packet, hop_limit, source, destination),
-    }
-}
-
 // Whether a packet is refused for its hop limit, which is known before its sum is.
 fn is_far(packet: &[u8], hop_limit: u8) -> bool
-    ensures { λ r. ⌜ r ≡ (fits (length (now (packet .entry))) && (isNdp (getD (now (packet .entry)) 0 0) && not (eqb «hop_limit» 255))) ⌝ }
+    ensures { λ r. ⌜ r ≡ (not (eqb «hop_limit» 255) && (fits (length (now (packet .entry))) && isNdp (getD (now (packet .entry)) 0 0))) ⌝ }
 {
+    if hop_limit == 255 {
+        return false;
+    }
     match check_len(packet.len()) {
         PacketLength::Refused(_) => false,
-        PacketLength::Fits => both(is_ndp(packet[0]), hop_limit != 255),
+        PacketLength::Fits => is_ndp(packet[0]),
     }
 }
 
@@ -216,12 +201,21 @@ fn is_far(packet: &[u8], hop_limit: u8) -> bool
 pub fn judge(packet: &[u8], hop_limit: u8, source: &[u8; 16], destination: &[u8; 16]) -> Judged
     ensures { λ r. ⌜ packetJudgedTold r ≡ judgedOf «hop_limit» (now (source .entry)) (now (destination .entry)) (now (packet .entry)) ⌝ }
 {
-    let valid = validates(packet, source, destination);
-    let opened = Icmpv6PayloadSlice::from_packet(packet);
-    Judged {
-        opened,
-        valid,
-        reason: reason_of(opened, valid, packet, hop_limit, source, destination),
+    match check_len(packet.len()) {
+        PacketLength::Refused(why) => Judged {
+            opened: PayloadRead::Refused(why),
+            valid: false,
+            reason: 0,
+        },
+        PacketLength::Fits => {
+            let valid = validates(packet, source, destination);
+            let opened = Icmpv6PayloadSlice::from_packet(packet);
+            Judged {
+                opened,
+                valid,
+                reason: first_reason(opened, valid, packet, hop_limit, source, destination),
+            }
+        }
     }
 }
 

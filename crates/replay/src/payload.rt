@@ -5,6 +5,7 @@ use crate::numbers::tell;
 use crate::types;
 use crate::types::Value;
 use icmpv6::icmpv6_slice;
+use icmpv6_payload::router_advertisement_payload::RouterAdvertisementPayload;
 use icmpv6_payload_slice::Icmpv6PayloadKind;
 use icmpv6_payload_slice::Icmpv6PayloadSlice;
 use icmpv6_payload_slice::PayloadRead;
@@ -61,8 +62,10 @@ fn payload_told(p: Icmpv6PayloadSlice, bytes: &[u8], payload: &[u8]) -> Told {
     let kind = p.kind;
     match kind {
         Icmpv6PayloadKind::Raw => tell(4, 0, 0, 0, payload.len() as u64, 0, 0),
-        Icmpv6PayloadKind::RouterAdvertisement(timers) => {
+        Icmpv6PayloadKind::RouterAdvertisement => {
             let options = options_of(p, bytes);
+            let read = RouterAdvertisementPayload::from_slice(payload);
+            let timers = read.payload;
             tell(
                 6,
                 0,

@@ -62,13 +62,13 @@ module _ (t : Icmpv6Type) (s out v : List ℕ) where
       by false true e f q = never {p = refuses 3 (65527 ∷ length s ∷ [])} (lit< tt) q
       by false false e f q = elim (decLe (fixedLen (kindNumber t)) (length s)) [
         | yes h ↦
-            let w = walked (walk (payloadOptions t s) .ending) refl (rw (whole 0 (kindNumber t) s (omega arith)) at q) in
+            let w = walked (walk (payloadOptions t s) .ending) refl (rw (whole 0 (kindNumber t) (length s) (omega arith)) at q) in
             record { named = e; within = ltb-false 65527 (length s) f; present = h; walks = w .0; room = omega (arith, w .1) }
-        | no h ↦ never {p = refuses 4 (fixedLen (kindNumber t) ∷ (length s - 0) ∷ [])} (lit< tt) (rw (short 0 (kindNumber t) s (omega arith)) at q)
+        | no h ↦ never {p = refuses 4 (fixedLen (kindNumber t) ∷ (length s - 0) ∷ [])} (lit< tt) (rw (short 0 (kindNumber t) (length s) (omega arith)) at q)
       ]
 
 -- and it writes whatever is so
 pub writes : (t : Icmpv6Type) (s out : List ℕ) → Accepted t s out → writeOf t s out ≡ gives ((8 + length s) ∷ [])
 writes t s out ok =
-    let passed : sendableOf t s ≡ gives [] = rest t s (ok .named) (ok .within) ∙ rw (whole 0 (kindNumber t) s (omega (arith, ok .present)), ok .walks) in
+    let passed : sendableOf t s ≡ gives [] = rest t s (ok .named) (ok .within) ∙ rw (whole 0 (kindNumber t) (length s) (omega (arith, ok .present)), ok .walks) in
     fitting t s out (sym passed) (ok .room)

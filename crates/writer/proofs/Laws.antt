@@ -59,7 +59,7 @@ module _ (t : Icmpv6Type) (s : List ℕ) where
 
   -- what was dispatched says where the options are
   pub dispatched : (m : Icmpv6PayloadSlice) → payloadTold (Payload m) ≡ byValue t s → drop (m .«options_at») s ≡ payloadOptions t s
-  dispatched m e = ap (λ (i : ℕ). drop i s) (placed 0 (kindNumber t) s {m = m} (omega arith) e .options)
+  dispatched m e = ap (λ (i : ℕ). drop i s) (placed 0 (kindNumber t) (length s) {m = m} (omega arith) e .options)
 
   -- what passed every test is within the limit
   pub within : gives [] ≡ sendableOf t s → length s ≤ 65527

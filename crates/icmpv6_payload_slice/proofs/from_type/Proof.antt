@@ -1,10 +1,6 @@
 -- `from_type` meets its contract: the fixed part is tested, and the options are placed behind it.
 -- Assumes nothing.
-use mathlib.Core.Path.{_≡_, sym, ap, _∙_}
-use denote.Ref.{now}
-use lib.ListN.{length, drop, length-drop}
-use native.Mathlib.Omega.{arith}
-use Rattle.paper.proofs.Rest.{rest-is}
+use mathlib.Core.Path.{sym}
 use Rattle.icmpv6_payload_slice.proofs.Laws.{short, whole}
 use borrow.Author.Needs.{needs}
 use Rattle.icmpv6_payload_slice.proofs.from_type.Statement.{statement}
@@ -19,20 +15,11 @@ sub-present c = search needs
 returns : tie.Need-returns
 returns c =
     let n = c .before .fixed-len .ensures in
-    let a = c .before .before .before .args in
-    rw n (sym (short (a .payload-at) (a .type-u8) (now (a .bytes)) (rw n at (c .if1 .taken))))
-
-sub-kind-of : tie.Need-sub-kind-of
-sub-kind-of c = search needs
-
-part-kind-of-start : tie.Need-part-kind-of-start
-part-kind-of-start c = search needs
-
-part-kind-of-end : tie.Need-part-kind-of-end
-part-kind-of-end c = search needs
+    let a = c .before .before .args in
+    rw n (sym (short (a .payload-at) (a .type-u8) (a .length) (rw n at (c .if1 .taken))))
 
 kind-of-requires : tie.Need-kind-of-requires
-kind-of-requires c κs = rw (rest-is, length-drop, ← (c .before .before .fixed-len .ensures)) (c .before .if1 .left)
+kind-of-requires c κs = search needs
 
 add-options-place : tie.Need-add-options-place
 add-options-place c = search needs
@@ -42,10 +29,10 @@ options-place-requires c κs = search needs
 
 returns-2 : tie.Need-returns-2
 returns-2 c =
-    let a = c .before .before .before .before .before .before .args in
-    let n = c .before .before .before .before .fixed-len .ensures in
-    rw (c .options-place .ensures, n, c .before .kind-of .ensures, rest-is)
-    (sym (whole (a .payload-at) (a .type-u8) (now (a .bytes)) (rw n at (c .before .before .before .if1 .left))))
+    let a = c .before .before .before .before .args in
+    let n = c .before .before .before .fixed-len .ensures in
+    rw (c .options-place .ensures, n, c .before .kind-of .ensures)
+    (sym (whole (a .payload-at) (a .type-u8) (a .length) (rw n at (c .before .before .if1 .left))))
 
 pub from-type-spec : {M : Type 1} → statement M
 from-type-spec =
@@ -54,9 +41,6 @@ from-type-spec =
     fixed-len-requires
     sub-present
     returns
-    sub-kind-of
-    part-kind-of-start
-    part-kind-of-end
     kind-of-requires
     add-options-place
     options-place-requires

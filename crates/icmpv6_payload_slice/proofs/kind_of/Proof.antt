@@ -1,47 +1,9 @@
 -- `kind_of` meets its contract: each arm names the kind of its type, and a type that no arm has is none of the table.
 -- Assumes nothing.
-use mathlib.Core.List.{List, _∷_}
-use Prim.Native.Nat.{ℕ, _≤_}
-use denote.Ref.{now}
-use lib.ListN.{length}
-use Rattle.message_table.proofs.Laws.{fixed-of-134, unlisted}
-use mathlib.Core.Path.{ap}
-use native.Mathlib.Omega.{arith}
+use Rattle.message_table.proofs.Laws.{unlisted}
 use Rattle.message_table.specs.Table.{known}
-use borrow.Author.Needs.{needs}
 use Rattle.icmpv6_payload_slice.proofs.kind_of.Statement.{statement}
 use Rattle.icmpv6_payload_slice.proofs.kind_of.Tie as tie
-
--- of a router advertisement eight bytes are there
-enough : (c : tie.At-match-keys8) → 8 ≤ length (now (c .before .before .args .payload))
-enough c = rw (c .match .keys8, fixed-of-134) at (c .before .before .pre)
-
-shared-slice-read-t6 : tie.Need-shared-slice-read-t6
-shared-slice-read-t6 c = let e = enough (c .before) in omega arith
-
-shared-slice-read-t8 : tie.Need-shared-slice-read-t8
-shared-slice-read-t8 c = let e = enough (c .before .before) in omega arith
-
-shared-slice-read-t10 : tie.Need-shared-slice-read-t10
-shared-slice-read-t10 c = let e = enough (c .before .before .before) in omega arith
-
-shared-slice-read-t12 : tie.Need-shared-slice-read-t12
-shared-slice-read-t12 c = let e = enough (c .before .before .before .before) in omega arith
-
-shared-slice-read-t14 : tie.Need-shared-slice-read-t14
-shared-slice-read-t14 c = let e = enough (c .before .before .before .before .before) in omega arith
-
-shared-slice-read-t16 : tie.Need-shared-slice-read-t16
-shared-slice-read-t16 c = let e = enough (c .before .before .before .before .before .before) in omega arith
-
-shared-slice-read-t18 : tie.Need-shared-slice-read-t18
-shared-slice-read-t18 c = let e = enough (c .before .before .before .before .before .before .before) in omega arith
-
-shared-slice-read-t20 : tie.Need-shared-slice-read-t20
-shared-slice-read-t20 c = let e = enough (c .before .before .before .before .before .before .before .before) in omega arith
-
-from-bytes-requires : tie.Need-from-bytes-requires
-from-bytes-requires c κs = search needs
 
 returns : tie.Need-returns
 unfolding known
@@ -73,7 +35,7 @@ returns-7 c = rw (c .match .keys7)
 
 returns-8 : tie.Need-returns-8
 unfolding known
-returns-8 c = rw (c .before .before .before .before .before .before .before .before .before .match .keys8) (ap (λ (l : List ℕ). 134 ∷ l) (c .from-bytes .ensures))
+returns-8 c = rw (c .match .keys8)
 
 returns-9 : tie.Need-returns-9
 unfolding known
@@ -89,21 +51,12 @@ returns-11 c = rw (c .match .keys11)
 
 returns-12 : tie.Need-returns-12
 returns-12 c = let r = c .match .rest in
-    rw (unlisted (c .before .before .args .type-u8) 0 (r .0 .0 .0 .0 .0 .0 .0 .0 .0 .0 .1) (r .0 .0 .0 .0 .0 .0 .0 .0 .0 .1) (r .0 .0 .0 .0 .0 .0 .0 .0 .1) (r .0 .0 .0 .0 .0 .0 .0 .1) (r .0 .0 .0 .0 .0 .0 .1) (r .0 .0 .0 .0 .0 .1) (r .0 .0 .0 .0 .1) (r .0 .0 .0 .1) (r .0 .0 .1) (r .0 .1) (r .1))
+    rw (unlisted (c .before .args .type-u8) 0 (r .0 .0 .0 .0 .0 .0 .0 .0 .0 .0 .1) (r .0 .0 .0 .0 .0 .0 .0 .0 .0 .1) (r .0 .0 .0 .0 .0 .0 .0 .0 .1) (r .0 .0 .0 .0 .0 .0 .0 .1) (r .0 .0 .0 .0 .0 .0 .1) (r .0 .0 .0 .0 .0 .1) (r .0 .0 .0 .0 .1) (r .0 .0 .0 .1) (r .0 .0 .1) (r .0 .1) (r .1))
 
 pub kind-of-spec : {M : Type 1} → statement M
 kind-of-spec =
     tie.close
     (tie.spec
-    shared-slice-read-t6
-    shared-slice-read-t8
-    shared-slice-read-t10
-    shared-slice-read-t12
-    shared-slice-read-t14
-    shared-slice-read-t16
-    shared-slice-read-t18
-    shared-slice-read-t20
-    from-bytes-requires
     returns
     returns-2
     returns-3

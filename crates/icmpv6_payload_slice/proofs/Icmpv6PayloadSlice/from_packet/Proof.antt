@@ -39,7 +39,7 @@ returns c = rw (refused _ (c .before .why .given .0 .0) (ap lengthTold (sym (c .
 returns-2 : tie.Need-returns-2
 returns-2 c =
     let p = now (c .before .before .before .before .before .before .args .packet) in
-    c .from-type .ensures ∙ ap (λ (k : ℕ). payloadOf 8 k p) (c .before .kind-at .ensures) ∙ sym (fitting p (fits (c .before .before)))
+    c .from-type .ensures ∙ ap (λ (k : ℕ). payloadOf 8 k (length p)) (c .before .kind-at .ensures) ∙ sym (fitting p (fits (c .before .before)))
 
 pub from-packet-spec : {M : Type 1} → statement M
 from-packet-spec =
