@@ -5,7 +5,7 @@ use mathlib.Core.Bool.{true, false}
 use denote.Ref.{now}
 use Rattle.ndp_option_list.specs.Told.{occursTold}
 use Rattle.receive.specs.Receive.{optionReasons}
-use Rattle.receive.specs.Reasons.{firstOf}
+use Rattle.receive_rules.specs.Reasons.{firstOf}
 use Rattle.receive.proofs.Options.{answers, not-clean}
 use borrow.Author.Needs.{needs}
 use Rattle.receive.proofs.option_reason.Statement.{statement}
