@@ -18,6 +18,7 @@ use icmpv6_payload_slice::PayloadRead;
 use message_table::is_ndp;
 use ndp_option_list::Occurs;
 use ndp_option_list::has_type;
+use ndp_options::Cursor;
 use packet_length::PacketLength;
 use packet_length::check_len;
 use receive_rules::neighbor_advertisement;
@@ -76,11 +77,13 @@ fn option_reason(
     source: &[u8; 16],
     destination: &[u8; 16],
 ) -> u8
-    requires { ⌜ (8 ≤ length (now packet)) × (message .«payload_at» ≡ 8) × (message .«options_at» ≤ length (now packet)) ⌝ }
+    requires { ⌜ (8 ≤ length (now packet)) × (message .«payload_at» ≡ 8) ⌝ }
     ensures { λ r. ⌜ r ≡ firstOf (optionReasons (payloadKindNumber (message .kind)) (drop (message .«options_at») (now (packet .entry))) (now (source .entry)) (now (destination .entry)) (now (packet .entry))) ⌝ }
 {
-    let at = message.options_at;
-    match has_type(&packet[at..], NdpOptionType(1)) {
+    let start = Cursor {
+        at: message.options_at,
+    };
+    match has_type(start.rest(packet), NdpOptionType(1)) {
         Occurs::Refused(_, _) => 5,
         Occurs::Yes => own_reason(message, packet, source, destination, true),
         Occurs::No => own_reason(message, packet, source, destination, false),

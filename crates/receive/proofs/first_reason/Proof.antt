@@ -96,7 +96,7 @@ handed c =
 option-reason-requires : tie.Need-option-reason-requires
 option-reason-requires c κs =
     let o = handed c in
-    (start (c .before .before .before) .pre .0 .0, o .payload, o .within)
+    (start (c .before .before .before) .pre .0 .0, o .payload)
 
 returns-6 : tie.Need-returns-6
 returns-6 c =

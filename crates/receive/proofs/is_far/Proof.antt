@@ -34,9 +34,10 @@ is-ndp-requires c κs = search needs
 
 returns-2 : tie.Need-returns-2
 returns-2 c =
-    simp
-    (ne-eqb _ _ (c .before .before .before .if1 .left),
-    refused-misfit _ (c .enum-told .given .0 .0) (sym (ap size.lengthTold (c .enum-told .given .1)) ∙ c .before .before .check-len .ensures))
+    simp (
+      ne-eqb _ _ (c .before .before .before .if1 .left),
+      refused-misfit _ (c .enum-told .given .0 .0) (sym (ap size.lengthTold (c .enum-told .given .1)) ∙ c .before .before .check-len .ensures),
+    )
 
 returns-3 : tie.Need-returns-3
 returns-3 c =
