@@ -9,8 +9,8 @@ use Rattle.icmpv6_payload_slice.specs.Dispatch.{payloadOf, byBytes}
 use Rattle.checksum.specs.Ones.{_⊕_}
 use Rattle.checksum.specs.Icmpv6.{sumOf, verdictOf}
 use Rattle.wire.specs.Prefix.{begins}
-use Rattle.receive.specs.Reasons.{firstOf}
-use Rattle.receive.specs.Rules.{ownOf}
+use Rattle.receive_rules.specs.Reasons.{firstOf}
+use Rattle.receive.specs.Own.{ownOf}
 use Rattle.receive.specs.Receive.{optionReasons, reasons, reasonOf}
 use Rattle.ndp_walk.specs.Judge.{judge}
 use Rattle.ndp_walk.specs.Walk.{walkOn, walkFrom}

@@ -18,11 +18,11 @@ use Rattle.packet_length.proofs.Laws.{Between, sized-fits, fits-or, misfit, ref
 use Rattle.icmpv6_payload_slice.specs.Dispatch.{payloadOf, kindAt, byBytes}
 use Rattle.icmpv6_payload_slice.proofs.Laws.{given-or-4}
 use Rattle.checksum.specs.Icmpv6.{verdictOf}
-use Rattle.receive.specs.Reasons.{Reason, firstOf}
-use Rattle.receive.specs.Rules.{ownOf}
+use Rattle.receive_rules.specs.Reasons.{Reason, firstOf}
+use Rattle.receive.specs.Own.{ownOf}
 use Rattle.receive.specs.Receive.{optionReasons, reasons, reasonOf, notReceived, answerBy}
 use Rattle.receive.specs.Told.{PacketJudgement, judgedOf}
-use Rattle.receive.proofs.First.{Numbered}
+use Rattle.receive_rules.proofs.First.{Numbered}
 
 -- the number of a reason is told, and no dispatch is refused 11
 pub answer-n : (packet : List ℕ) (m n : ℕ) → byBytes packet .number < 11 → answerBy packet m ≡ notReceived n → (0 < n) × (m ≡ n)

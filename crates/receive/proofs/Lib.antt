@@ -1,4 +1,3 @@
-pub mod First
 pub mod Answers
 pub mod Types
 pub mod Options

@@ -3,8 +3,8 @@
 use Prim.Native.Nat.{ℕ, _+_, _-_, _<_, _≤_}
 use mathlib.Core.Path.{_≡_, refl, sym, ap, _∙_}
 use mathlib.Core.Logic.{_↔_}
-use mathlib.Core.Bool.{Bool, true, false, false≢true, cond, not}
-use mathlib.Core.List.{List, [], _∷_}
+use mathlib.Core.Bool.{Bool, true, false, false≢true, cond, not, _||_}
+use mathlib.Core.List.{List, [], _∷_, map}
 use native.Mathlib.Omega.{arith}
 use lib.Dec.{eqb}
 use lib.ListN.{length, getD, drop}
@@ -19,17 +19,26 @@ use Rattle.icmpv6_payload_slice.proofs.Laws.{whole, not-short, options-within, 
 use Rattle.ndp_walk.specs.Walk.{Ending, Clean, RefusedAt, walkFrom, walkOn}
 use Rattle.ndp_options.specs.Walk.{walk}
 use Rattle.ndp_option_list.specs.Whole.{occurs}
-use Rattle.receive.specs.Reasons.{reason, firstOf, None, First}
-use Rattle.receive.specs.Rules.{ownOf}
+use Rattle.receive_rules.specs.Reasons.{Reason, reason, firstOf, None, First, here, later}
+use Rattle.receive.specs.Own.{ownOf}
 use Rattle.receive.specs.Receive.{packetOptions, isClean, isSound, optionReasons, reasons, reasonOf, accepted, notReceived, answerBy, receiveOf}
 use Rattle.receive.specs.Given.{givenFor, among}
-use Rattle.receive.proofs.First.{none-first, first-none, named, names, first-numbered, first-among, without}
+use Rattle.receive_rules.proofs.First.{none-first, first-none, named, names, first-numbered, without}
 use Rattle.receive.proofs.Answers.{answer-0, answer-n, dispatch-low, numbered}
 use Rattle.receive.proofs.Types.{Kind, solicits-routers, advertises-router, solicits-neighbor, advertises-neighbor, redirects, other, view, ndp-kind, other-kind, no-options, solicits-kind}
 
 pub is-clean : (e : Ending) → isClean e ≡ true → e ≡ Clean
 is-clean Clean h = refl
 is-clean (RefusedAt at why) h = absurd (false≢true h)
+
+-- the first reason is one of those that are listed
+first-among : {n : ℕ} {rs : List Reason} → First n rs → among n (map (λ (r : Reason). r .number) rs) ≡ true
+first-among {n} (here {r} e h) = rw (eq-eqb n (r .number) (sym e))
+first-among {n} (later {r} {rs} h f) = either (eqb n (r .number)) (first-among f)
+  where
+    either : {b : Bool} (a : Bool) → b ≡ true → a || b ≡ true
+    either true e = refl
+    either false e = e
 
 module _ (hops : ℕ) (source destination packet : List ℕ) where
   -- of a length that fits the first of the reasons is told

@@ -17,8 +17,8 @@ use Rattle.ndp_walk.specs.Judge.{judge}
 use Rattle.ndp_walk.specs.Walk.{walkOn, walkFrom}
 use Rattle.ndp_options.specs.Rule.{rule}
 use Rattle.ndp_option_list.specs.Whole.{occurs}
-use Rattle.receive.specs.Reasons.{firstOf}
-use Rattle.receive.specs.Rules.{ownOf}
+use Rattle.receive_rules.specs.Reasons.{firstOf}
+use Rattle.receive.specs.Own.{ownOf}
 use Rattle.receive.specs.Receive.{optionReasons, reasons, reasonOf, accepted, notReceived, answerBy, receiveOf}
 use Rattle.receive.specs.Given.{givenFor}
 

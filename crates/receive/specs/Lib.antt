@@ -1,5 +1,4 @@
-pub mod Reasons
-pub mod Rules
+pub mod Own
 pub mod Receive
 pub mod Given
 pub mod Whole

@@ -15,8 +15,8 @@ use Rattle.ndp_walk.specs.Walk.{Ending, Clean, RefusedAt}
 use Rattle.ndp_options.specs.Walk.{walk}
 use Rattle.ndp_option_list.specs.Whole.{occurs}
 use Rattle.icmpv6_payload_slice.specs.Dispatch.{optionsIn, partsOf, kindAt, byBytes}
-use Rattle.receive.specs.Reasons.{Reason, reason, firstOf}
-use Rattle.receive.specs.Rules.{ownOf}
+use Rattle.receive_rules.specs.Reasons.{Reason, reason, firstOf}
+use Rattle.receive.specs.Own.{ownOf}
 
 -- the option bytes of a packet, as the dispatch places them
 abbrev pub packetOptions : List ℕ → List ℕ

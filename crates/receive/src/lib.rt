@@ -8,26 +8,26 @@ ghost use lib.ListN.{length, getD, drop};
 ghost use Rattle.packet_length.specs.Length.{fits};
 ghost use Rattle.message_table.specs.Table.{isNdp};
 ghost use Rattle.icmpv6_payload_slice.specs.Dispatch.{payloadKindNumber, payloadTold, byBytes};
-ghost use Rattle.receive.specs.Reasons.{firstOf};
-ghost use Rattle.receive.specs.Rules.{routerSolicitation, routerAdvertisement, neighborSolicitation, neighborAdvertisement, redirect, ownOf};
+ghost use Rattle.receive_rules.specs.Reasons.{firstOf};
+ghost use Rattle.receive.specs.Own.{ownOf};
 ghost use Rattle.receive.specs.Receive.{optionReasons, reasons, isSound, reasonOf, receiveOf};
 ghost use Rattle.receive.specs.Told.{receivedTold, packetJudgedTold, judgedOf};
-use addresses::is_link_local;
-use addresses::is_multicast;
-use addresses::is_same;
-use addresses::is_solicited_node;
-use addresses::is_unspecified;
 use checksum::validates;
 use icmpv6_payload_slice::Icmpv6PayloadSlice;
 use icmpv6_payload_slice::PayloadRead;
 use message_table::is_ndp;
 use ndp_option_list::Occurs;
 use ndp_option_list::has_type;
+use ndp_options::Cursor;
 use packet_length::PacketLength;
 use packet_length::check_len;
+use receive_rules::neighbor_advertisement;
+use receive_rules::neighbor_solicitation;
+use receive_rules::redirect;
+use receive_rules::router_advertisement;
+use receive_rules::router_solicitation;
 use refusal::NdpOptionType;
 use refusal::Refusal;
-use wire::has_flag;
 
 pub enum Received {
     // What the packet is and where its parts are: its options are whole, and are the bytes from `options_at` on.
@@ -42,71 +42,6 @@ pub struct Judged {
     pub opened: PayloadRead,
     pub valid: bool,
     pub reason: u8,
-}
-
-fn both(a: bool, b: bool) -> bool
-    ensures { λ r. ⌜ r ≡ (a && b) ⌝ }
-{
-    if a { b } else { false }
-}
-
-// Each of these five answers the first of its type's own reasons, or 0. `listed`: the options have one of type 1.
-fn router_solicitation(source: &[u8; 16], listed: bool) -> u8
-    ensures { λ r. ⌜ r ≡ firstOf (routerSolicitation (now (source .entry)) listed) ⌝ }
-{
-    if both(is_unspecified(source), listed) {
-        8
-    } else {
-        0
-    }
-}
-
-fn router_advertisement(source: &[u8; 16]) -> u8
-    ensures { λ r. ⌜ r ≡ firstOf (routerAdvertisement (now (source .entry))) ⌝ }
-{
-    if is_link_local(source) { 0 } else { 6 }
-}
-
-fn neighbor_solicitation(
-    source: &[u8; 16],
-    destination: &[u8; 16],
-    target: &[u8],
-    listed: bool,
-) -> u8
-    ensures { λ r. ⌜ r ≡ firstOf (neighborSolicitation (now (source .entry)) (now (destination .entry)) (now (target .entry)) listed) ⌝ }
-{
-    let nobody = is_unspecified(source);
-    if both(nobody, !is_solicited_node(destination)) {
-        return 6;
-    }
-    if is_multicast(target) {
-        return 7;
-    }
-    if both(nobody, listed) { 8 } else { 0 }
-}
-
-fn neighbor_advertisement(destination: &[u8; 16], flags: u8, target: &[u8]) -> u8
-    ensures { λ r. ⌜ r ≡ firstOf (neighborAdvertisement (now (destination .entry)) flags (now (target .entry))) ⌝ }
-{
-    if both(has_flag(flags, 64), is_multicast(destination)) {
-        return 6;
-    }
-    if is_multicast(target) { 7 } else { 0 }
-}
-
-fn redirect(source: &[u8; 16], target: &[u8], field: &[u8]) -> u8
-    ensures { λ r. ⌜ r ≡ firstOf (redirect (now (source .entry)) (now (target .entry)) (now (field .entry))) ⌝ }
-{
-    if !is_link_local(source) {
-        return 6;
-    }
-    if is_multicast(field) {
-        return 7;
-    }
-    if is_link_local(target) {
-        return 0;
-    }
-    if is_same(target, field) { 0 } else { 7 }
 }
 
 // The first of a type's own reasons, or 0.
@@ -142,11 +77,13 @@ fn option_reason(
     source: &[u8; 16],
     destination: &[u8; 16],
 ) -> u8
-    requires { ⌜ (8 ≤ length (now packet)) × (message .«payload_at» ≡ 8) × (message .«options_at» ≤ length (now packet)) ⌝ }
+    requires { ⌜ (8 ≤ length (now packet)) × (message .«payload_at» ≡ 8) ⌝ }
     ensures { λ r. ⌜ r ≡ firstOf (optionReasons (payloadKindNumber (message .kind)) (drop (message .«options_at») (now (packet .entry))) (now (source .entry)) (now (destination .entry)) (now (packet .entry))) ⌝ }
 {
-    let at = message.options_at;
-    match has_type(&packet[at..], NdpOptionType(1)) {
+    let start = Cursor {
+        at: message.options_at,
+    };
+    match has_type(start.rest(packet), NdpOptionType(1)) {
         Occurs::Refused(_, _) => 5,
         Occurs::Yes => own_reason(message, packet, source, destination, true),
         Occurs::No => own_reason(message, packet, source, destination, false),

@@ -17,8 +17,8 @@ use Rattle.checksum.specs.Running.{Bytes}
 use Rattle.checksum.specs.Fields.{isValid}
 use Rattle.ndp_options.specs.Walk.{walk}
 use Rattle.ndp_option_list.specs.Whole.{occurs}
-use Rattle.receive.specs.Reasons.{firstOf}
-use Rattle.receive.specs.Rules.{ownOf}
+use Rattle.receive_rules.specs.Reasons.{firstOf}
+use Rattle.receive.specs.Own.{ownOf}
 use Rattle.receive.specs.Receive.{answerBy, receiveOf}
 use Rattle.receive.specs.Receive as check
 use Rattle.receive.proofs.Types.{ndp-kind}

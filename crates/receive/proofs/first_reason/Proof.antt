@@ -13,7 +13,7 @@ use Rattle.message_table.specs.Table.{isNdp}
 use Rattle.icmpv6_payload_slice.specs.Dispatch.{kindAt, byBytes}
 use Rattle.icmpv6_payload_slice.proofs.Opened.{Opened, opened, short-refused}
 use Rattle.receive.specs.Receive.{packetOptions, optionReasons, reasons}
-use Rattle.receive.specs.Reasons.{firstOf}
+use Rattle.receive_rules.specs.Reasons.{firstOf}
 use Rattle.receive.proofs.Types.{ndp-kind}
 use borrow.Author.Needs.{needs}
 use Rattle.receive.proofs.first_reason.Statement.{statement}
@@ -96,7 +96,7 @@ handed c =
 option-reason-requires : tie.Need-option-reason-requires
 option-reason-requires c κs =
     let o = handed c in
-    (start (c .before .before .before) .pre .0 .0, o .payload, o .within)
+    (start (c .before .before .before) .pre .0 .0, o .payload)
 
 returns-6 : tie.Need-returns-6
 returns-6 c =

@@ -7,8 +7,9 @@ use mathlib.Core.List.{List}
 use denote.Ref.{now}
 use lib.ListN.{getD}
 use borrow.Author.Tests.{ne-eqb}
-use Rattle.receive.specs.Reasons.{firstOf}
-use Rattle.receive.specs.Rules.{neighborSolicitation, neighborAdvertisement, redirect, targetOf, ownOf}
+use Rattle.receive_rules.specs.Reasons.{firstOf}
+use Rattle.receive_rules.specs.Rules.{neighborSolicitation, neighborAdvertisement, redirect}
+use Rattle.receive.specs.Own.{targetOf, ownOf}
 use borrow.Author.Needs.{needs}
 use Rattle.receive.proofs.own_reason.Statement.{statement}
 use Rattle.receive.proofs.own_reason.Tie as tie

@@ -1,9 +1,9 @@
 -- `router_solicitation` meets its contract: its test is the reason's.
 -- Assumes nothing.
-use Rattle.receive.specs.Reasons.{firstOf}
+use Rattle.receive_rules.specs.Reasons.{firstOf}
 use borrow.Author.Needs.{needs}
-use Rattle.receive.proofs.router_solicitation.Statement.{statement}
-use Rattle.receive.proofs.router_solicitation.Tie as tie
+use Rattle.receive_rules.proofs.router_solicitation.Statement.{statement}
+use Rattle.receive_rules.proofs.router_solicitation.Tie as tie
 
 is-unspecified-requires : tie.Need-is-unspecified-requires
 is-unspecified-requires c κs = search needs

@@ -1,9 +1,9 @@
 -- `router_advertisement` meets its contract: its test is the reason's.
 -- Assumes nothing.
-use Rattle.receive.specs.Reasons.{firstOf}
+use Rattle.receive_rules.specs.Reasons.{firstOf}
 use borrow.Author.Needs.{needs}
-use Rattle.receive.proofs.router_advertisement.Statement.{statement}
-use Rattle.receive.proofs.router_advertisement.Tie as tie
+use Rattle.receive_rules.proofs.router_advertisement.Statement.{statement}
+use Rattle.receive_rules.proofs.router_advertisement.Tie as tie
 
 is-link-local-requires : tie.Need-is-link-local-requires
 is-link-local-requires c κs = search needs

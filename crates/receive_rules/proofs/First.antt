@@ -2,13 +2,10 @@
 -- Assumes nothing.
 use Prim.Native.Nat.{ℕ, _<_}
 use mathlib.Core.Path.{_≡_, refl, sym, _∙_}
-use mathlib.Core.Bool.{Bool, true, false, false≢true, cond, _||_}
-use mathlib.Core.List.{List, [], _∷_, _++_, map}
+use mathlib.Core.Bool.{Bool, true, false, false≢true, cond}
+use mathlib.Core.List.{List, [], _∷_, _++_}
 use native.Mathlib.Omega.{arith}
-use lib.Dec.{eqb}
-use borrow.Author.Tests.{eq-eqb}
-use Rattle.receive.specs.Reasons.{Reason, firstOf, None, First, here, later}
-use Rattle.receive.specs.Given.{among}
+use Rattle.receive_rules.specs.Reasons.{Reason, firstOf, None, First, here, later}
 
 -- no number is 0, which stands for no reason
 abbrev pub Numbered : List Reason → Type 0
@@ -46,14 +43,6 @@ names n (r ∷ rs) p e = by (r .holds) refl (names n rs p) e
 pub first-numbered : {n : ℕ} {rs : List Reason} → Numbered rs → First n rs → 0 < n
 first-numbered p (here e h) = omega (arith, p .0)
 first-numbered p (later h f) = first-numbered (p .1) f
-
-pub first-among : {n : ℕ} {rs : List Reason} → First n rs → among n (map (λ (r : Reason). r .number) rs) ≡ true
-first-among {n} (here {r} e h) = rw (eq-eqb n (r .number) (sym e))
-first-among {n} (later {r} {rs} h f) = either (eqb n (r .number)) (first-among f)
-  where
-    either : {b : Bool} (a : Bool) → b ≡ true → a || b ≡ true
-    either true e = refl
-    either false e = e
 
 -- a reason that does not hold may be left out
 pub without : {n : ℕ} (before : List Reason) (r : Reason) (rs : List Reason) → r .holds ≡ false → First n (before ++ r ∷ rs) → First n (before ++ rs)

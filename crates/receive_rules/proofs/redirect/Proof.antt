@@ -1,9 +1,9 @@
 -- `redirect` meets its contract: its tests are the reasons', in their order.
 -- Assumes nothing.
-use Rattle.receive.specs.Reasons.{firstOf}
+use Rattle.receive_rules.specs.Reasons.{firstOf}
 use borrow.Author.Needs.{needs}
-use Rattle.receive.proofs.redirect.Statement.{statement}
-use Rattle.receive.proofs.redirect.Tie as tie
+use Rattle.receive_rules.proofs.redirect.Statement.{statement}
+use Rattle.receive_rules.proofs.redirect.Tie as tie
 
 is-link-local-requires : tie.Need-is-link-local-requires
 is-link-local-requires c κs = search needs

@@ -3,10 +3,10 @@
 use mathlib.Core.Path.{_≡_, sym}
 use mathlib.Core.Bool.{not, _&&_}
 use Rattle.addresses.specs.Address.{unspecified, solicitedNode}
-use Rattle.receive.specs.Reasons.{firstOf}
+use Rattle.receive_rules.specs.Reasons.{firstOf}
 use borrow.Author.Needs.{needs}
-use Rattle.receive.proofs.neighbor_solicitation.Statement.{statement}
-use Rattle.receive.proofs.neighbor_solicitation.Tie as tie
+use Rattle.receive_rules.proofs.neighbor_solicitation.Statement.{statement}
+use Rattle.receive_rules.proofs.neighbor_solicitation.Tie as tie
 
 is-unspecified-requires : tie.Need-is-unspecified-requires
 is-unspecified-requires c κs = search needs

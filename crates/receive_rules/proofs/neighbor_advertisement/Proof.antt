@@ -4,10 +4,10 @@ use mathlib.Core.Path.{_≡_, sym}
 use mathlib.Core.Bool.{_&&_}
 use Rattle.wire.specs.Wire.{hasFlag}
 use Rattle.addresses.specs.Address.{multicast}
-use Rattle.receive.specs.Reasons.{firstOf}
+use Rattle.receive_rules.specs.Reasons.{firstOf}
 use borrow.Author.Needs.{needs}
-use Rattle.receive.proofs.neighbor_advertisement.Statement.{statement}
-use Rattle.receive.proofs.neighbor_advertisement.Tie as tie
+use Rattle.receive_rules.proofs.neighbor_advertisement.Statement.{statement}
+use Rattle.receive_rules.proofs.neighbor_advertisement.Tie as tie
 
 has-flag-requires : tie.Need-has-flag-requires
 has-flag-requires c κs = search needs

@@ -2,14 +2,11 @@
 -- `listed`: an option of type 1, the sender's link-layer address (section 4.6.1), is among the options.
 -- Assumes nothing.
 use Prim.Native.Nat.{ℕ}
-use mathlib.Core.Bool.{Bool, cond, not, _&&_, _||_}
+use mathlib.Core.Bool.{Bool, not, _&&_, _||_}
 use mathlib.Core.List.{List, [], _∷_}
-use lib.Dec.{eqb}
-use lib.ListN.{getD}
 use Rattle.wire.specs.Wire.{hasFlag}
 use Rattle.addresses.specs.Address.{unspecified, multicast, linkLocal, solicitedNode, same}
-use Rattle.icmpv6_payload_slice.specs.Parts.{addressPart}
-use Rattle.receive.specs.Reasons.{Reason, reason}
+use Rattle.receive_rules.specs.Reasons.{Reason, reason}
 
 -- section 6.1.1: no such option from the unspecified address
 abbrev pub routerSolicitation : List ℕ → Bool → List Reason
@@ -40,20 +37,3 @@ redirect source target field =
     reason 6 (not (linkLocal source))
     ∷ reason 7 (multicast field || not (linkLocal target || same target field))
     ∷ []
-
--- sections 4.3 to 4.5: the target of a message of a type, and the destination field of a redirect
-abbrev pub targetOf : ℕ → List ℕ → List ℕ
-targetOf type packet = addressPart 8 0 type packet
-
-abbrev pub fieldOf : ℕ → List ℕ → List ℕ
-fieldOf type packet = addressPart 8 1 type packet
-
--- a type's own reasons
-unfoldable pub ownOf : ℕ → List ℕ → List ℕ → List ℕ → Bool → List Reason
-ownOf type source destination packet listed =
-    cond (eqb type 133) (routerSolicitation source listed)
-    (cond (eqb type 134) (routerAdvertisement source)
-    (cond (eqb type 135) (neighborSolicitation source destination (targetOf type packet) listed)
-    (cond (eqb type 136) (neighborAdvertisement destination (getD packet 4 0) (targetOf type packet))
-    (cond (eqb type 137) (redirect source (targetOf type packet) (fieldOf type packet))
-    []))))
