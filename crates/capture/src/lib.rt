@@ -1,11 +1,9 @@
-// One record of a capture, read and written (docs/RULES.md C1 to C8).
+// One record of a capture, read (docs/RULES.md C1 to C6, C8).
 ghost use mathlib.Core.Path.{_≡_};
 ghost use Prim.Native.Nat.{_+_, _<_};
 ghost use lib.ListN.{length, take, drop};
-ghost use Rattle.output.specs.Output.{writtenTold, leaves};
-ghost use Rattle.capture.specs.Record.{addressAt, recordBytes, recordOf, recordPlaced, nextOf, writeRecordOf};
+ghost use Rattle.capture.specs.Record.{addressAt, recordOf, recordPlaced, nextOf};
 ghost use Rattle.capture.specs.Paper.{nextPaper};
-use output::Written;
 use refusal::Refusal;
 
 // The bytes before the packet: the mark, a hop limit, two addresses and the packet's length.
@@ -96,31 +94,4 @@ pub fn address(capture: &[u8], at: usize) -> [u8; 16]
     let mut address = [0u8; 16];
     output::put(&mut address, 0, part(capture, at, 16));
     address
-}
-
-// Writes a record at the start of `out`. If it refuses it writes nothing.
-pub fn write_record(
-    hop_limit: u8,
-    source: &[u8; 16],
-    destination: &[u8; 16],
-    packet: &[u8],
-    out: &mut [u8],
-) -> Written
-    ensures answers { λ r. ⌜ writtenTold r ≡ writeRecordOf (now (packet .entry)) (now (out .entry)) ⌝ }
-    ensures lent { λ r. ⌜ now (out .exit) ≡ leaves (writeRecordOf (now (packet .entry)) (now (out .entry))) (now (out .entry)) 0 (recordBytes «hop_limit» (now (source .entry)) (now (destination .entry)) (now (packet .entry))) ⌝ }
-{
-    let len = packet.len();
-    if MAX_PACKET_LEN < len {
-        return Written::Refused(Refusal::LongRecord { length: len });
-    }
-    let needed = HEAD_LEN + len;
-    if out.len() < needed {
-        return Written::Refused(Refusal::ShortOutput { needed });
-    }
-    output::put(out, 0, b"I6");
-    output::put(out, 2, &[hop_limit]);
-    output::put(out, 3, source);
-    output::put(out, 19, destination);
-    output::put(out, 35, &wire::u16_to_be(len as u16));
-    output::put(out, HEAD_LEN, packet)
 }

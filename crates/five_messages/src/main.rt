@@ -8,7 +8,6 @@ ghost use Rattle.icmpv6.specs.Head.{headerTold};
 ghost use Rattle.checksum.specs.Told.{computed};
 ghost use Rattle.icmpv6_checksum.specs.Header.{calcOf, headerAfter};
 use capture::part;
-use capture::write_record;
 use checksum::Computed;
 use icmpv6::icmpv6_header::Icmpv6Header;
 use icmpv6_checksum::HeaderMade;
@@ -40,6 +39,7 @@ use output::put;
 use prefix_information::PrefixInformation;
 use receive::Received;
 use receive::receive_check;
+use record_writer::write_record;
 use writer::write_packet;
 
 // fe80::1, fe80::2, ff02::1, ff02::2, ff02::1:ff00:2 and 2001:db8::9.

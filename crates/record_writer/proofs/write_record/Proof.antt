@@ -10,11 +10,12 @@ use denote.Ref.{now}
 use Rattle.output.specs.Output.{over}
 use Rattle.output.proofs.Fitting.{fits, narrow, wrote}
 use Rattle.output.proofs.Wrote.{_then_}
 use Rattle.capture.specs.Record.{mark, recordBytes}
-use Rattle.capture.proofs.Writing.{not-held, held, length-bytes}
+use Rattle.capture.proofs.Writing.{not-held, held}
+use Rattle.record_writer.proofs.Length.{length-bytes}
 use borrow.Author.Needs.{needs}
-use Rattle.capture.proofs.write_record.Statement.{statement}
-use Rattle.capture.proofs.write_record.Tie as tie
+use Rattle.record_writer.proofs.write_record.Statement.{statement}
+use Rattle.record_writer.proofs.write_record.Tie as tie
 
 returns : tie.Need-returns
 returns c = let a = c .before .before .before .args in simp (not-held (now (a .packet)) (c .if1 .taken)) (refl, refl)
