@@ -1,4 +1,4 @@
-// The calls of compare/FORMAT.md: the name of each, and what the library answers.
+// The calls of compare/FORMAT.md: what the library answers.
 use crate::lists;
 use crate::numbers;
 use crate::numbers::Told;
@@ -6,35 +6,6 @@ use crate::options;
 use crate::payload;
 use crate::types;
 use crate::walk;
-
-// Writes the name of a call.
-pub(crate) fn name(call: u8) {
-    match call {
-        1 => write(b"Icmpv6Slice"),
-        2 => write(b"Icmpv6Slice::icmp_type"),
-        3 => write(b"Icmpv6Header::to_bytes"),
-        4 => write(b"RouterAdvertisementHeader::from_bytes"),
-        5 => write(b"RouterAdvertisementHeader::to_bytes"),
-        6 => write(b"NdpOptionHeader::from_slice"),
-        7 => write(b"NdpOptionHeader::from_bytes, to_bytes, byte_len"),
-        8 => write(b"PrefixInformation::from_slice"),
-        9 => write(b"PrefixInformation::from_bytes"),
-        10 => write(b"PrefixInformation::to_bytes"),
-        11 => write(b"MtuOptionSlice"),
-        12 => write(b"RedirectedHeaderOptionSlice"),
-        13 => write(b"NdpOptionsIterator"),
-        14 => write(b"NdpOptionsIterator up to an absent reader"),
-        15 => write(b"Icmpv6PayloadSlice::from_slice"),
-        16 => write(b"Icmpv6PayloadSlice::from_slice up to an absent reader"),
-        17 => write(b"Icmpv6Slice::payload_slice"),
-        18 => write(b"Icmpv6Slice::payload_slice up to an absent reader"),
-        19 => write(b"RouterAdvertisementPayloadSlice"),
-        20 => write(b"RedirectPayloadSlice"),
-        21 => write(b"NdpOptionsIterator, counted"),
-        22 => write(b"NdpOptionsIterator, a type looked for"),
-        _ => write(b"another call"),
-    }
-}
 
 pub(crate) fn write(text: &[u8]) {
     io::write_all(libc::STDOUT_FILENO, text);

@@ -6,6 +6,7 @@ ghost use lib.ListN.{length};
 
 mod answers;
 mod lists;
+mod names;
 mod numbers;
 mod options;
 mod payload;
@@ -110,7 +111,7 @@ fn line(counts: &[u64], call: u8) {
         return;
     }
     let differ = count_at(counts, at + 1);
-    answers::name(call);
+    names::name(call);
     answers::write(b": ");
     io::print_decimal(libc::STDOUT_FILENO, compared);
     answers::write(b" compared, ");
