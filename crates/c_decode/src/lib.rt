@@ -108,11 +108,12 @@ fn head_of(kind: u8, code: u8, packet: &[u8]) -> Head
 pub extern "C" fn brothladder_decode(packet: &[u8]) -> Head
     ensures { λ r. ⌜ r ≡ headFor (decodeOf (now (packet .entry))) ⌝ }
 {
+    // Each arm returns: an answer is then written straight to where it goes (docs/BENCHMARKS.md).
     match packet_length::check_len(packet.len()) {
         PacketLength::Refused(why) => {
             let n = why.numbers();
             let value = n.values;
-            Head {
+            return Head {
                 answer: c_answer::REFUSED,
                 refusal: n.number as u32,
                 value,
@@ -120,8 +121,8 @@ pub extern "C" fn brothladder_decode(packet: &[u8]) -> Head
                 code: 0,
                 checksum: 0,
                 field: [0, 0, 0, 0],
-            }
+            };
         }
-        PacketLength::Fits => head_of(packet[0], packet[1], packet),
+        PacketLength::Fits => return head_of(packet[0], packet[1], packet),
     }
 }

@@ -42,12 +42,13 @@ pub extern "C" fn brothladder_read_prefix(option: &[u8]) -> Prefix
     let read = PrefixInformation::from_slice(option);
     let verdict = read.answer;
     let information = read.information;
+    // Each arm returns: an answer is then written straight to where it goes (docs/BENCHMARKS.md).
     match verdict {
-        NdpOptionRead::Accepted => prefix_of(c_answer::PREFIX, 0, [0, 0, 0, 0], information),
+        NdpOptionRead::Accepted => return prefix_of(c_answer::PREFIX, 0, [0, 0, 0, 0], information),
         NdpOptionRead::Refused(why) => {
             let n = why.numbers();
             let value = n.values;
-            prefix_of(c_answer::REFUSED, n.number as u32, value, information)
+            return prefix_of(c_answer::REFUSED, n.number as u32, value, information);
         }
     }
 }

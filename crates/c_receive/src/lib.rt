@@ -22,27 +22,28 @@ pub extern "C" fn brothladder_receive(
 ) -> Received
     ensures { λ r. ⌜ r ≡ receivedFor (now (packet .entry)) (receiveOf «hop_limit» (now (source .entry)) (now (destination .entry)) (now (packet .entry))) ⌝ }
 {
+    // Each arm returns: an answer is then written straight to where it goes (docs/BENCHMARKS.md).
     match receive_check(packet, hop_limit, source, destination) {
         receive::Received::Accepted(message) => {
             let at = message.options_at;
-            Received {
+            return Received {
                 answer: c_answer::RECEIVED,
                 refusal: 0,
                 value: [0, 0, 0, 0],
                 options_at: at,
                 options_length: packet.len() - at,
-            }
+            };
         }
         receive::Received::Refused(why) => {
             let n = why.numbers();
             let value = n.values;
-            Received {
+            return Received {
                 answer: c_answer::REFUSED,
                 refusal: n.number as u32,
                 value,
                 options_at: 0,
                 options_length: 0,
-            }
+            };
         }
     }
 }

@@ -54,11 +54,12 @@ pub extern "C" fn brothladder_step(options: &[u8], at: usize) -> Stepped
     ensures { λ r. ⌜ r ≡ steppedFor at (stepOf (now (options .entry)) at) ⌝ }
 {
     let c = Cursor { at };
+    // Each arm returns: an answer is then written straight to where it goes (docs/BENCHMARKS.md).
     match c.step(options) {
         Step::Handed(option, next) => {
             let kind = option.kind;
             let id = option.option_type;
-            Stepped {
+            return Stepped {
                 answer: c_answer::OPTION,
                 refusal: 0,
                 value: [0, 0, 0, 0],
@@ -67,20 +68,14 @@ pub extern "C" fn brothladder_step(options: &[u8], at: usize) -> Stepped
                 at: option.at,
                 length: option.len,
                 next: next.at,
-            }
+            };
         }
-        Step::End => bare(c_answer::END, 0, [0, 0, 0, 0], at),
+        Step::End => return bare(c_answer::END, 0, [0, 0, 0, 0], at),
         Step::Refused(why, next) => {
             let n = why.numbers();
-            // One by one: passed as the array, they make every other step dearer.
-            let v = n.values;
-            bare(
-                c_answer::REFUSED,
-                n.number as u32,
-                [v[0], v[1], v[2], v[3]],
-                next.at,
-            )
+            let value = n.values;
+            return bare(c_answer::REFUSED, n.number as u32, value, next.at);
         }
-        Step::Stopped => bare(c_answer::STOPPED, 0, [0, 0, 0, 0], at),
+        Step::Stopped => return bare(c_answer::STOPPED, 0, [0, 0, 0, 0], at),
     }
 }

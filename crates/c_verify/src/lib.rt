@@ -19,13 +19,14 @@ pub extern "C" fn brothladder_verify(
 ) -> Verified
     ensures { λ r. ⌜ r ≡ verifiedFor (verdictOf (now (source .entry)) (now (destination .entry)) (now (packet .entry))) ⌝ }
 {
+    // Each arm returns: an answer is then written straight to where it goes (docs/BENCHMARKS.md).
     match checksum::verify(packet, source, destination) {
-        Verdict::Valid => Verified {
+        Verdict::Valid => return Verified {
             answer: c_answer::VALID,
             refusal: 0,
             value: [0, 0, 0, 0],
         },
-        Verdict::Invalid => Verified {
+        Verdict::Invalid => return Verified {
             answer: c_answer::INVALID,
             refusal: 0,
             value: [0, 0, 0, 0],
@@ -33,11 +34,11 @@ pub extern "C" fn brothladder_verify(
         Verdict::Refused(why) => {
             let n = why.numbers();
             let value = n.values;
-            Verified {
+            return Verified {
                 answer: c_answer::REFUSED,
                 refusal: n.number as u32,
                 value,
-            }
+            };
         }
     }
 }

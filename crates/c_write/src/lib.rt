@@ -27,8 +27,9 @@ pub extern "C" fn brothladder_write(
     ensures lent { λ r. ⌜ now (out .exit) ≡ outputOf (valueOfWord «type_u8» «code_u8» bytes5to8) (now (source .entry)) (now (destination .entry)) (now (payload .entry)) (now (out .entry)) ⌝ }
 {
     let t = Icmpv6Type::from_parts(type_u8, code_u8, wire::u32_to_be(bytes5to8));
+    // Each arm returns: an answer is then written straight to where it goes (docs/BENCHMARKS.md).
     match write_packet(t, source, destination, payload, out) {
-        output::Written::To(length) => Written {
+        output::Written::To(length) => return Written {
             answer: c_answer::WRITTEN,
             refusal: 0,
             value: [0, 0, 0, 0],
@@ -37,12 +38,12 @@ pub extern "C" fn brothladder_write(
         output::Written::Refused(why) => {
             let n = why.numbers();
             let value = n.values;
-            Written {
+            return Written {
                 answer: c_answer::REFUSED,
                 refusal: n.number as u32,
                 value,
                 length: 0,
-            }
+            };
         }
     }
 }

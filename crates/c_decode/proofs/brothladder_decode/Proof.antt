@@ -21,8 +21,8 @@ enum-known-why c = search needs
 numbers-requires : tie.Need-numbers-requires
 numbers-requires c κs = search needs
 
-cast-t8 : tie.Need-cast-t8
-cast-t8 c = search needs
+cast-t7 : tie.Need-cast-t7
+cast-t7 c = search needs
 
 enum-told : tie.Need-enum-told
 enum-told c = search needs
@@ -55,10 +55,10 @@ brothladder-decode-spec =
     check-len-requires
     enum-known-why
     numbers-requires
-    cast-t8
+    cast-t7
+    returns
     enum-told
     shared-slice-read-head-of
     shared-slice-read-head-of-2
     head-of-requires
-    returns
     returns-2)

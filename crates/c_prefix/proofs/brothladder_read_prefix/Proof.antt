@@ -42,9 +42,9 @@ brothladder-read-prefix-spec =
     from-slice-requires
     enum-told
     prefix-of-requires
+    returns
     enum-known-verdict
     numbers-requires
     cast-prefix-of
     prefix-of-requires-2
-    returns
     returns-2)

@@ -15,8 +15,8 @@ receive-check-requires c κs = search needs
 enum-known-message : tie.Need-enum-known-message
 enum-known-message c = search needs
 
-sub-t14 : tie.Need-sub-t14
-sub-t14 c = accepted-opened _ _ _ _ _ (c .before .before .before .receive-check .ensures) (c .before .message .given .1) .within
+sub-t13 : tie.Need-sub-t13
+sub-t13 c = accepted-opened _ _ _ _ _ (c .before .before .before .receive-check .ensures) (c .before .message .given .1) .within
 
 enum-known-why : tie.Need-enum-known-why
 enum-known-why c = search needs
@@ -24,8 +24,8 @@ enum-known-why c = search needs
 numbers-requires : tie.Need-numbers-requires
 numbers-requires c κs = search needs
 
-cast-t15 : tie.Need-cast-t15
-cast-t15 c = search needs
+cast-t14 : tie.Need-cast-t14
+cast-t14 c = search needs
 
 returns : tie.Need-returns
 unfolding receivedFor
@@ -41,9 +41,9 @@ brothladder-receive-spec =
     (tie.spec
     receive-check-requires
     enum-known-message
-    sub-t14
+    sub-t13
+    returns
     enum-known-why
     numbers-requires
-    cast-t15
-    returns
+    cast-t14
     returns-2)

@@ -15,8 +15,8 @@ enum-known-option c = search needs
 kind-number-requires : tie.Need-kind-number-requires
 kind-number-requires c κs = search needs
 
-cast-t16 : tie.Need-cast-t16
-cast-t16 c = search needs
+cast-t15 : tie.Need-cast-t15
+cast-t15 c = search needs
 
 enum-told : tie.Need-enum-told
 enum-told c = search needs
@@ -32,18 +32,6 @@ numbers-requires c κs = search needs
 
 cast-bare : tie.Need-cast-bare
 cast-bare c = search needs
-
-array-read-t21 : tie.Need-array-read-t21
-array-read-t21 c = search needs
-
-array-read-t24 : tie.Need-array-read-t24
-array-read-t24 c = search needs
-
-array-read-t27 : tie.Need-array-read-t27
-array-read-t27 c = search needs
-
-array-read-t30 : tie.Need-array-read-t30
-array-read-t30 c = search needs
 
 bare-requires-2 : tie.Need-bare-requires-2
 bare-requires-2 c κs = search needs
@@ -77,20 +65,16 @@ brothladder-step-spec =
     step-requires
     enum-known-option
     kind-number-requires
-    cast-t16
+    cast-t15
+    returns
     enum-told
     bare-requires
+    returns-2
     enum-known-why
     numbers-requires
     cast-bare
-    array-read-t21
-    array-read-t24
-    array-read-t27
-    array-read-t30
     bare-requires-2
+    returns-3
     enum-told-2
     bare-requires-3
-    returns
-    returns-2
-    returns-3
     returns-4)

@@ -21,8 +21,8 @@ enum-known-why c = search needs
 numbers-requires : tie.Need-numbers-requires
 numbers-requires c κs = search needs
 
-cast-t11 : tie.Need-cast-t11
-cast-t11 c = search needs
+cast-t10 : tie.Need-cast-t10
+cast-t10 c = search needs
 
 returns : tie.Need-returns
 unfolding verifiedFor
@@ -42,10 +42,10 @@ brothladder-verify-spec =
     (tie.spec
     verify-requires
     enum-told
+    returns
     enum-told-2
+    returns-2
     enum-known-why
     numbers-requires
-    cast-t11
-    returns
-    returns-2
+    cast-t10
     returns-3)

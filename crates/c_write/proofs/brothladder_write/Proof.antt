@@ -34,8 +34,8 @@ enum-known-why c = search needs
 numbers-requires : tie.Need-numbers-requires
 numbers-requires c κs = search needs
 
-cast-t19 : tie.Need-cast-t19
-cast-t19 c = search needs
+cast-t18 : tie.Need-cast-t18
+cast-t18 c = search needs
 
 same-length : tie.Need-same-length
 same-length c = search needs
@@ -77,10 +77,10 @@ brothladder-write-spec =
     from-parts-requires
     write-packet-requires
     enum-known-length
-    enum-known-why
-    numbers-requires
-    cast-t19
     same-length
     returns
+    enum-known-why
+    numbers-requires
+    cast-t18
     same-length-2
     returns-2)
