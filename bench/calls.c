@@ -8,16 +8,16 @@
 typedef struct brothladder_head (*decode_fn)(const uint8_t *, size_t);
 typedef struct brothladder_verified (*verify_fn)(const uint8_t *, size_t, const uint8_t *, const uint8_t *);
 typedef struct brothladder_received (*receive_fn)(const uint8_t *, size_t, uint8_t, const uint8_t *, const uint8_t *);
-typedef struct brothladder_stepped (*step_fn)(const uint8_t *, size_t, size_t);
-typedef struct brothladder_prefix (*prefix_fn)(const uint8_t *, size_t);
+typedef struct brothladder_stepped (*step_fn)(const uint8_t *, size_t, size_t, size_t);
+typedef struct brothladder_prefix (*prefix_fn)(const uint8_t *, size_t, size_t);
 typedef struct brothladder_written (*write_fn)(uint8_t, uint8_t, uint32_t, const uint8_t *, size_t, const uint8_t *, const uint8_t *, uint8_t *, size_t);
 
 #define PLAIN(tag)                                                                                                          \
     struct brothladder_head plain_decode_##tag(const uint8_t *, size_t);                                                    \
     struct brothladder_verified plain_verify_##tag(const uint8_t *, size_t, const uint8_t *, const uint8_t *);              \
     struct brothladder_received plain_receive_##tag(const uint8_t *, size_t, uint8_t, const uint8_t *, const uint8_t *);    \
-    struct brothladder_stepped plain_step_##tag(const uint8_t *, size_t, size_t);                                           \
-    struct brothladder_prefix plain_prefix_##tag(const uint8_t *, size_t);                                                  \
+    struct brothladder_stepped plain_step_##tag(const uint8_t *, size_t, size_t, size_t);                                   \
+    struct brothladder_prefix plain_prefix_##tag(const uint8_t *, size_t, size_t);                                          \
     struct brothladder_written plain_write_##tag(uint8_t, uint8_t, uint32_t, const uint8_t *, size_t, const uint8_t *,      \
                                                  const uint8_t *, uint8_t *, size_t);
 PLAIN(O2)
@@ -62,9 +62,9 @@ static uint8_t out[2048];
 static size_t options;
 
 /* a caller's loop: steps from 0 until no option comes */
-static __attribute__((noinline)) size_t walk(step_fn step, const uint8_t *p, size_t n) {
+static __attribute__((noinline)) size_t walk(step_fn step, const uint8_t *p, size_t n, size_t offset) {
     size_t at = 0, count = 0;
-    while ((stepped = step(p, n, at)).answer == BROTHLADDER_OPTION) at = stepped.next, count++;
+    while ((stepped = step(p, n, offset, at)).answer == BROTHLADDER_OPTION) at = stepped.next, count++;
     return count;
 }
 
@@ -76,8 +76,8 @@ static __attribute__((noinline)) void measure(const struct set *s, int call, lon
         case 0: head = s->decode(p, n); break;
         case 1: verified = s->verify(p, n, r + 3, r + 19); break;
         case 2: received = s->receive(p, n, r[2], r + 3, r + 19); break;
-        case 3: if (s != sets) options = walk(s->step, p + 16, n - 16); break;
-        case 4: prefix = s->prefix(p + 16, 32); break;
+        case 3: if (s != sets) options = walk(s->step, p + 16, n - 16, 16); break;
+        case 4: prefix = s->prefix(p + 16, 32, 16); break;
         case 5: written = s->write(p[0], p[1], (uint32_t)p[4] << 24 | (uint32_t)p[5] << 16 | (uint32_t)p[6] << 8 | p[7], p + 8, n - 8, r + 3, r + 19, out, sizeof out); break;
         }
         if (i) mark(id, (long)n);

@@ -6,7 +6,7 @@ import re
 import sys
 from functools import lru_cache
 
-CALLS = ["decode", "verify", "receive", "step", "read_prefix", "write"]
+CALLS = ["decode", "verify", "receive", "step", "read_prefix", "write", "version_2"]
 AIM_CODE, AIM_STACK = 16 * 1024, 512
 
 # ---- instructions

@@ -1,7 +1,7 @@
 /* brothladder.h: reads, checks and writes ICMPv6 and Neighbor Discovery packets. docs/RULES.md has every rule, area X these calls.
  *
- * Each call takes numbers and byte buffers and returns one struct by value. You may pass any bytes of any length. A call allocates
- * nothing, keeps nothing from one call to the next, and uses no C library.
+ * Each call takes numbers and byte buffers and returns one struct by value (brothladder_version_2 takes nothing and returns a number).
+ * You may pass any bytes of any length. A call allocates nothing, keeps nothing from one call to the next, and uses no C library.
  *
  * The first field of each struct, `answer`, says what was found. `answer` is never 0: compare it with the constants below, do not
  * test it as a boolean; a zeroed struct is not a valid answer. Only BROTHLADDER_END says that a list of options was read to its end.
@@ -16,7 +16,7 @@
  *     const uint8_t *options = packet + r.options_at;
  *     size_t at = 0;
  *     for (;;) {
- *         struct brothladder_stepped s = brothladder_step(options, r.options_length, at);
+ *         struct brothladder_stepped s = brothladder_step(options, r.options_length, r.options_at, at);
  *         switch (s.answer) {
  *         case BROTHLADDER_OPTION:
  *             note(s.kind, options + s.at, s.length);     // note it: act only at END
@@ -28,6 +28,16 @@
  *             return forget();
  *         }
  *     }
+ *
+ * Places: `at` and `next` of a step count from the first of the option bytes that you pass. A `place` counts from the first byte of
+ * the packet, as a trace does. Only you know where in the packet your bytes begin: pass it as `offset`, or 0 to count from your own
+ * first byte.
+ *
+ * Versions: this is version 2. Its structs are longer than those of version 1, the header without BROTHLADDER_VERSION, and two calls
+ * take one argument more. Under GCC and clang each object that includes this header refers to the call brothladder_version_2, so an
+ * object that was compiled with the header of a later version does not link with this library, nor one of this version with a later
+ * library. Objects of version 1 have no such reference: they would link, and go wrong. So compile all of them anew once. Each later
+ * change of a struct, an argument or a meaning takes the next number.
  *
  * What you must ensure: each pointer can be read (`out`: written) for the length that goes with it, and an address for 16 bytes. A
  * pointer may be NULL only if its length is 0. Nobody else writes to a buffer during the call. `out` does not overlap another
@@ -59,6 +69,9 @@ extern "C" {
 #define BROTHLADDER_ADDRESSES(a, b)
 #endif
 
+/* The version of this header: see the top of the file, and brothladder_version_2 at its end. */
+#define BROTHLADDER_VERSION 2u
+
 /* Values of `answer`. They all differ, over all calls, and none is 0. */
 #define BROTHLADDER_REFUSED 1u  /* any call: the input was bad; `refusal` and `value` say why */
 #define BROTHLADDER_KNOWN 2u    /* decode: a head whose type and code are known */
@@ -72,22 +85,24 @@ extern "C" {
 #define BROTHLADDER_WRITTEN 10u /* write: the packet is in `out` */
 #define BROTHLADDER_PREFIX 11u  /* prefix: a prefix information option */
 
-/* Values of `refusal`, which says why a call refused; 0 if it did not. `value` has the numbers that go with it, 0 past the last.
- *                                                       value[0]       value[1]       value[2]        value[3] */
-#define BROTHLADDER_REFUSAL_SHORT_PACKET 1u           /* 8              length                                      */
-#define BROTHLADDER_REFUSAL_LONG_PACKET 2u            /* 4294967295     length                                      */
-#define BROTHLADDER_REFUSAL_LONG_PAYLOAD 3u           /* 65527          length                                      */
-#define BROTHLADDER_REFUSAL_SHORT_FIXED_PART 4u       /* needed         present                                     */
-#define BROTHLADDER_REFUSAL_UNEXPECTED_SIZE 5u        /* option type    expected       actual bytes                 */
-#define BROTHLADDER_REFUSAL_ZERO_LENGTH 6u            /* option type                                                */
-#define BROTHLADDER_REFUSAL_UNEXPECTED_END_OF_SLICE 7u /* option type   expected       actual bytes                 */
-#define BROTHLADDER_REFUSAL_UNEXPECTED_HEADER 8u      /* expected type  actual type    expected units  actual units */
-#define BROTHLADDER_REFUSAL_SHORT_OUTPUT 9u           /* bytes that `out` must have                                 */
-#define BROTHLADDER_REFUSAL_KNOWN_PAIR 10u            /* type           code           (no call here returns it)    */
-#define BROTHLADDER_REFUSAL_NOT_RECEIVED 11u          /* BROTHLADDER_REASON_..                                      */
-#define BROTHLADDER_REFUSAL_NO_MARK 12u               /* place          (12 to 14: the dump program only)           */
-#define BROTHLADDER_REFUSAL_LONG_RECORD 13u           /* length                                                     */
-#define BROTHLADDER_REFUSAL_CAPTURE_ENDS 14u          /* place                                                      */
+/* Values of `refusal`, which says why a call refused; 0 if it did not. `value` has the numbers that go with it, 0 past the last. The
+ * last number of 5 to 8 is the place of the refused option in the packet: `offset` + `at` of a step, `offset` of the prefix.
+ *                                                       value[0]       value[1]       value[2]        value[3]      value[4] */
+#define BROTHLADDER_REFUSAL_SHORT_PACKET 1u           /* 8              length                                                */
+#define BROTHLADDER_REFUSAL_LONG_PACKET 2u            /* 4294967295     length                                                */
+#define BROTHLADDER_REFUSAL_LONG_PAYLOAD 3u           /* 65527          length                                                */
+#define BROTHLADDER_REFUSAL_SHORT_FIXED_PART 4u       /* needed         present                                               */
+#define BROTHLADDER_REFUSAL_UNEXPECTED_SIZE 5u        /* option type    expected       actual bytes    place                  */
+#define BROTHLADDER_REFUSAL_ZERO_LENGTH 6u            /* option type    place                                                 */
+#define BROTHLADDER_REFUSAL_UNEXPECTED_END_OF_SLICE 7u /* option type   expected       actual bytes    place                  */
+#define BROTHLADDER_REFUSAL_UNEXPECTED_HEADER 8u      /* expected type  actual type    expected units  actual units  place    */
+#define BROTHLADDER_REFUSAL_SHORT_OUTPUT 9u           /* bytes that `out` must have                                           */
+#define BROTHLADDER_REFUSAL_KNOWN_PAIR 10u            /* type           code           (no call here returns it)              */
+#define BROTHLADDER_REFUSAL_NOT_RECEIVED 11u          /* BROTHLADDER_REASON_..                                                */
+#define BROTHLADDER_REFUSAL_NO_MARK 12u               /* place          (12 to 14: the dump program only)                     */
+#define BROTHLADDER_REFUSAL_LONG_RECORD 13u           /* length                                                               */
+#define BROTHLADDER_REFUSAL_CAPTURE_ENDS 14u          /* place                                                                */
+#define BROTHLADDER_REFUSAL_FAR_OFFSET 22u            /* (none) offset + length is above 4294967295: no packet is that long   */
 
 /* value[0] of refusal 11: the first test of the receive check, in this order, that the packet failed. */
 #define BROTHLADDER_REASON_HOP_LIMIT 1u     /* the hop limit is not 255 */
@@ -139,7 +154,7 @@ extern "C" {
 struct brothladder_head {
     uint32_t answer; /* KNOWN, UNKNOWN or REFUSED */
     uint32_t refusal;
-    uint64_t value[4];
+    uint64_t value[5];
     uint16_t type;
     uint16_t code;
     uint32_t checksum; /* the field as it stands in the packet */
@@ -149,24 +164,25 @@ struct brothladder_head {
 struct brothladder_verified {
     uint32_t answer; /* VALID, INVALID or REFUSED */
     uint32_t refusal;
-    uint64_t value[4];
+    uint64_t value[5];
 };
 
 struct brothladder_stepped {
     uint32_t answer; /* OPTION, END, STOPPED or REFUSED */
     uint32_t refusal;
-    uint64_t value[4];
+    uint64_t value[5];
     uint32_t kind; /* BROTHLADDER_KIND_.. */
     uint32_t type; /* the option's type byte */
-    size_t at;     /* the option is options[at] to options[at + length - 1] */
+    size_t at;    /* the option is options[at] to options[at + length - 1] */
     size_t length;
-    size_t next; /* the place to pass to the next step */
+    size_t next;  /* what to pass as `at` to the next step */
+    size_t place; /* where the option begins in the packet: offset + at */
 };
 
 struct brothladder_received {
     uint32_t answer; /* RECEIVED or REFUSED */
     uint32_t refusal;
-    uint64_t value[4];
+    uint64_t value[5];
     size_t options_at;     /* the options are packet[options_at] to the packet's end */
     size_t options_length; /* 0 if there are none; types other than 133 to 137 never have any */
 };
@@ -174,20 +190,21 @@ struct brothladder_received {
 struct brothladder_written {
     uint32_t answer; /* WRITTEN or REFUSED */
     uint32_t refusal;
-    uint64_t value[4];
+    uint64_t value[5];
     size_t length; /* the packet is out[0] to out[length - 1] */
 };
 
 struct brothladder_prefix {
     uint32_t answer; /* PREFIX or REFUSED */
     uint32_t refusal;
-    uint64_t value[4];
+    uint64_t value[5];
     uint32_t prefix_length; /* in bits; not checked, may be above 128 */
     uint16_t on_link;       /* 0 or 1 */
     uint16_t autonomous;    /* 0 or 1 */
     uint32_t valid_lifetime; /* in seconds; 4294967295 means forever */
     uint32_t preferred_lifetime;
     uint8_t prefix[16];
+    size_t place; /* where the option begins in the packet: offset */
 };
 
 /* Decodes the head of a packet. KNOWN: type, code, checksum field and the fields of the type; reserved bits are dropped. UNKNOWN: the
@@ -211,31 +228,48 @@ BROTHLADDER_ANSWER BROTHLADDER_ADDRESSES(4, 5)
 struct brothladder_received brothladder_receive(const uint8_t *packet, size_t length, uint8_t hop_limit, const uint8_t source[16],
                                                 const uint8_t destination[16]);
 
-/* Reads what stands at place `at` of the option bytes, which begin behind the message's fixed part (`options_at` of the receive check).
- * Pass 0 to the first step, and to each later one the `next` of the step before it.
+/* Reads what stands at place `at` of the option bytes, which begin behind the message's fixed part. `offset` is where they begin in the
+ * packet (`options_at` of the receive check). Pass 0 as `at` to the first step, and to each later one the `next` of the step before it.
  * OPTION: an option, within the bytes. END: there are no more.
  * REFUSED: there is no valid option at this place, and no later one will be returned: the step at `next` is STOPPED.
  * STOPPED: the place is beyond the bytes.
  * A walk that is over stays over: the step at `next` of END is END, the step at `next` of STOPPED is STOPPED.
- * Refusals: 5, 6, 7. */
+ * Refusals: 22 at every place up to the end, END's too; else 5, 6, 7. */
 BROTHLADDER_ANSWER
-struct brothladder_stepped brothladder_step(const uint8_t *options, size_t length, size_t at);
+struct brothladder_stepped brothladder_step(const uint8_t *options, size_t length, size_t offset, size_t at);
 
-/* Reads a prefix information option. Pass the bytes that a step returned with BROTHLADDER_KIND_PREFIX_INFORMATION.
- * Refusals: 5 if the length is not 32, 8 if the type byte is not 3 or the length byte is not 4. */
+/* Reads a prefix information option. Pass the bytes that a step returned with BROTHLADDER_KIND_PREFIX_INFORMATION, and its `place` as
+ * `offset`.
+ * Refusals: 22; 5 if the length is not 32, 8 if the type byte is not 3 or the length byte is not 4. */
 BROTHLADDER_ANSWER
-struct brothladder_prefix brothladder_read_prefix(const uint8_t *option, size_t length);
+struct brothladder_prefix brothladder_read_prefix(const uint8_t *option, size_t length, size_t offset);
 
 /* Writes a packet to the start of `out`: the head with the computed checksum, then the payload; 8 + payload_length bytes in all.
  * `bytes5to8` is bytes 4 to 7 of the head as one number, high byte first. For a known type and code the reserved bits of it are
  * written as 0; for any other pair all of it is written. For types 133 to 137 with code 0 the payload must hold the whole fixed part
  * and then options that walk to END; any other payload is written as it is.
- * Refusals, in this order: 3; then, for types 133 to 137 with code 0, 4 and 5, 6 or 7; then 9. A refusal leaves `out` as it was. A packet
- * that is written changes its own bytes of `out` and none behind them. */
+ * Refusals, in this order: 3; then, for types 133 to 137 with code 0, 4 and 5, 6 or 7, with the place in the packet that is being written;
+ * then 9. A refusal leaves `out` as it was. A packet that is written changes its own bytes of `out` and none behind them. */
 BROTHLADDER_ANSWER BROTHLADDER_ADDRESSES(6, 7)
 struct brothladder_written brothladder_write(uint8_t type, uint8_t code, uint32_t bytes5to8, const uint8_t *payload,
                                              size_t payload_length, const uint8_t source[16], const uint8_t destination[16],
                                              uint8_t *out, size_t out_length);
+
+/* Returns BROTHLADDER_VERSION. You need not call it: it is here to be referred to. `retain` keeps the reference where the linker drops
+ * what nobody uses. */
+uint32_t brothladder_version_2(void);
+
+#if defined(__GNUC__)
+#if defined(__has_attribute)
+#if __has_attribute(retain)
+#define BROTHLADDER_RETAIN __attribute__((retain))
+#endif
+#endif
+#ifndef BROTHLADDER_RETAIN
+#define BROTHLADDER_RETAIN
+#endif
+__attribute__((used)) BROTHLADDER_RETAIN static uint32_t (*const brothladder_version)(void) = brothladder_version_2;
+#endif
 
 #ifdef __cplusplus
 }

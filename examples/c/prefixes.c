@@ -20,16 +20,17 @@ struct noted {
     size_t count;
 };
 
-/* The walk. Returns 0 at the end of the list, and -1 where what is noted must be forgotten. */
-static int note_options(const uint8_t *options, size_t length, struct noted *noted) {
+/* The walk over the options, which begin at `offset` of the packet. Returns 0 at the end of the list, and -1 where what is noted must be
+   forgotten. */
+static int note_options(const uint8_t *options, size_t length, size_t offset, struct noted *noted) {
     size_t at = 0;
     noted->count = 0;
     for (;;) {
-        struct brothladder_stepped s = brothladder_step(options, length, at);
+        struct brothladder_stepped s = brothladder_step(options, length, offset, at);
         switch (s.answer) {
         case BROTHLADDER_OPTION:
             if (s.kind == BROTHLADDER_KIND_PREFIX_INFORMATION) {
-                struct brothladder_prefix p = brothladder_read_prefix(options + s.at, s.length);
+                struct brothladder_prefix p = brothladder_read_prefix(options + s.at, s.length, s.place);
                 if (p.answer != BROTHLADDER_PREFIX || noted->count == MOST_PREFIXES) return -1;
                 noted->prefixes[noted->count++] = p;
             }
@@ -65,7 +66,7 @@ static void handle(const struct message *m) {
         printf("received, no advertisement\n");
         return;
     }
-    if (note_options(m->packet + r.options_at, r.options_length, &noted) != 0) {
+    if (note_options(m->packet + r.options_at, r.options_length, r.options_at, &noted) != 0) {
         printf("advertisement left alone\n");
         return;
     }

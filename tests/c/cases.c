@@ -1,4 +1,5 @@
-/* The worked cases P1 to P13 of docs/RULES.md, every refusal with its numbers, and the edges: no bytes, the longest packets, places beyond the end. */
+/* The worked cases P1 to P13 of docs/RULES.md, every refusal with its numbers, and the edges: no bytes, the longest packets, places beyond the end,
+   offsets beyond the longest packet. */
 #define _GNU_SOURCE
 #include "check.h"
 #include "plain.h"
@@ -28,27 +29,35 @@ size_t hex(const char *text, uint8_t *bytes) {
     return n;
 }
 
-void refuses(const char *what, const void *answer, size_t size, uint32_t number, uint64_t v0, uint64_t v1, uint64_t v2, uint64_t v3) {
-    struct refused r, wanted = {BROTHLADDER_REFUSED, number, {v0, v1, v2, v3}};
+void refuses(const char *what, const void *answer, size_t size, uint32_t number, uint64_t v0, uint64_t v1, uint64_t v2, uint64_t v3,
+             uint64_t v4) {
+    struct refused r, wanted = {BROTHLADDER_REFUSED, number, {v0, v1, v2, v3, v4}};
     static const uint8_t rest[64];
     memcpy(&r, answer, sizeof r);
     same_answer(what, &r, &wanted, sizeof r);
     check(memcmp((const uint8_t *)answer + sizeof r, rest, size - sizeof r) == 0, what, "other numbers are 0");
 }
 
+void refuses_option(const void *answer, size_t size, const struct bad_option *option, uint64_t place) {
+    uint64_t v[4] = {option->value[0], option->value[1], option->value[2]};
+    v[option->number == 6 ? 1 : 3] = place;
+    refuses(option->bytes, answer, size, option->number, v[0], v[1], v[2], v[3], 0);
+}
+
 /* of a step: all but `next` is 0, and that is beyond the bytes */
-static void step_refuses(const char *what, struct brothladder_stepped s, size_t length, uint32_t number, uint64_t v0, uint64_t v1, uint64_t v2) {
+static void step_refuses(const char *what, struct brothladder_stepped s, size_t length, uint32_t number, uint64_t v0, uint64_t v1, uint64_t v2,
+                         uint64_t v3) {
     same(what, s.next, length + 1);
     s.next = 0;
-    refuses(what, &s, sizeof s, number, v0, v1, v2, 0);
+    refuses(what, &s, sizeof s, number, v0, v1, v2, v3, 0);
 }
 
 static void layout(void) {
-    same("head has no hole", sizeof(struct brothladder_head), 40 + 2 + 2 + 4 + 16);
-    same("verified has no hole", sizeof(struct brothladder_verified), 40);
-    same("stepped has no hole", sizeof(struct brothladder_stepped), 40 + 4 + 4 + 3 * sizeof(size_t));
-    same("received has no hole", sizeof(struct brothladder_received), 40 + 2 * sizeof(size_t));
-    same("prefix has no hole", sizeof(struct brothladder_prefix), 40 + 4 + 2 + 2 + 4 + 4 + 16);
+    same("head has no hole", sizeof(struct brothladder_head), 48 + 2 + 2 + 4 + 16);
+    same("verified has no hole", sizeof(struct brothladder_verified), 48);
+    same("stepped has no hole", sizeof(struct brothladder_stepped), 48 + 4 + 4 + 4 * sizeof(size_t));
+    same("received has no hole", sizeof(struct brothladder_received), 48 + 2 * sizeof(size_t));
+    same("prefix has no hole", sizeof(struct brothladder_prefix), 48 + 4 + 2 + 2 + 4 + 4 + 16 + sizeof(size_t));
     const uint32_t answers[] = {BROTHLADDER_REFUSED, BROTHLADDER_KNOWN, BROTHLADDER_UNKNOWN, BROTHLADDER_VALID, BROTHLADDER_INVALID,
                                 BROTHLADDER_OPTION, BROTHLADDER_END, BROTHLADDER_STOPPED, BROTHLADDER_RECEIVED, BROTHLADDER_WRITTEN,
                                 BROTHLADDER_PREFIX};
@@ -56,6 +65,7 @@ static void layout(void) {
         check(answers[i] != 0, "no answer is 0", "");
         for (size_t j = 0; j < i; j++) check(answers[i] != answers[j], "two answers differ", "");
     }
+    same("the version", brothladder_version_2(), BROTHLADDER_VERSION);
 }
 
 static void worked(void) {
@@ -63,7 +73,7 @@ static void worked(void) {
     size_t n;
 
     struct brothladder_head h = brothladder_decode((const uint8_t *)"\x85\0\0\0\0\0\0", 7);
-    refuses("P1", &h, sizeof h, 1, 8, 7, 0, 0);
+    refuses("P1", &h, sizeof h, 1, 8, 7, 0, 0, 0);
     n = hex("80 01 12 34 56 78 9a bc", b);
     h = brothladder_decode(b, n);
     same("P2", h.answer, BROTHLADDER_UNKNOWN);
@@ -77,23 +87,26 @@ static void worked(void) {
     same("P3 type", h.type, BROTHLADDER_TYPE_PACKET_TOO_BIG);
     same("P3 MTU", h.field[BROTHLADDER_FIELD_MTU], 1280);
 
-    same("P4", brothladder_step(NULL, 0, 0).answer, BROTHLADDER_END);
-    struct brothladder_stepped s = brothladder_step((const uint8_t *)"\1", 1, 0);
-    step_refuses("P5", s, 1, 5, 1, 2, 1);
-    same("P5, then", brothladder_step((const uint8_t *)"\1", 1, s.next).answer, BROTHLADDER_STOPPED);
-    n = hex("01 00", b);
-    step_refuses("P6", brothladder_step(b, n, 0), n, 6, 1, 0, 0);
-    n = hex("01 02 00 00 00 00 00 00", b);
-    step_refuses("P7", brothladder_step(b, n, 0), n, 7, 1, 16, 8);
-
-    memset(b, 0, sizeof b);
-    n = hex("03 03", b);
-    struct brothladder_prefix p = brothladder_read_prefix(b, 24);
-    refuses("P8", &p, sizeof p, 5, 3, 32, 24, 0);
+    struct brothladder_prefix p;
+    for (size_t offset = 0; offset <= 8; offset += 8) {
+        same("P4", brothladder_step(NULL, 0, offset, 0).answer, BROTHLADDER_END);
+        struct brothladder_stepped s = brothladder_step((const uint8_t *)"\1", 1, offset, 0);
+        step_refuses("P5", s, 1, 5, 1, 2, 1, offset);
+        same("P5, then", brothladder_step((const uint8_t *)"\1", 1, offset, s.next).answer, BROTHLADDER_STOPPED);
+        n = hex("01 00", b);
+        step_refuses("P6", brothladder_step(b, n, offset, 0), n, 6, 1, offset, 0, 0);
+        n = hex("01 02 00 00 00 00 00 00", b);
+        step_refuses("P7", brothladder_step(b, n, offset, 0), n, 7, 1, 16, 8, offset);
+        memset(b, 0, sizeof b);
+        n = hex("03 03", b);
+        p = brothladder_read_prefix(b, 24, offset);
+        refuses("P8", &p, sizeof p, 5, 3, 32, 24, offset, 0);
+    }
     n = hex("03 04 40 c0 00 01 51 80 00 00 38 40 00 00 00 00 20 01 0d b8 00 00 00 00 00 00 00 00 00 00 00 00", b);
     for (int i = 0; i < 2; i++, b[3] = 0xff) {
-        p = brothladder_read_prefix(b, n);
+        p = brothladder_read_prefix(b, n, 16);
         same("P9, P10", p.answer, BROTHLADDER_PREFIX);
+        same("P9, P10 place", p.place, 16);
         same("P9, P10 length", p.prefix_length, 64);
         check(p.on_link == 1 && p.autonomous == 1, "P9, P10 flags", "");
         same("P9, P10 valid", p.valid_lifetime, 86400);
@@ -119,16 +132,16 @@ static void dumped(void) {
     same("first packet", r.answer, BROTHLADDER_RECEIVED);
     same("its options begin at", r.options_at, 8);
     same("their bytes", r.options_length, 8);
-    struct brothladder_stepped s = brothladder_step(b + r.options_at, r.options_length, 0);
+    struct brothladder_stepped s = brothladder_step(b + r.options_at, r.options_length, r.options_at, 0);
     same("its option", s.answer, BROTHLADDER_OPTION);
-    check(s.kind == BROTHLADDER_KIND_SOURCE_LINK_LAYER_ADDRESS && s.type == 1 && s.at == 0 && s.length == 8 && s.next == 8, "opt 0 type 1 bytes 8", "");
-    s = brothladder_step(b + r.options_at, r.options_length, s.next);
+    check(s.kind == BROTHLADDER_KIND_SOURCE_LINK_LAYER_ADDRESS && s.type == 1 && s.at == 0 && s.length == 8 && s.next == 8 && s.place == 8, "opt 8 type 1 bytes 8", "");
+    s = brothladder_step(b + r.options_at, r.options_length, r.options_at, s.next);
     same("its end", s.answer, BROTHLADDER_END);
-    same("END stays", brothladder_step(b + r.options_at, r.options_length, s.next).answer, BROTHLADDER_END);
+    same("END stays", brothladder_step(b + r.options_at, r.options_length, r.options_at, s.next).answer, BROTHLADDER_END);
     n = hex("85 00 7a 2d 00 00 00 00 01 00 02 00 00 00 00 01", b);
     r = brothladder_receive(b, n, 255, router, all_routers);
-    refuses("second packet", &r, sizeof r, 11, BROTHLADDER_REASON_OPTIONS, 0, 0, 0);
-    step_refuses("its option", brothladder_step(b + 8, n - 8, 0), n - 8, 6, 1, 0, 0);
+    refuses("second packet", &r, sizeof r, 11, BROTHLADDER_REASON_OPTIONS, 0, 0, 0, 0);
+    step_refuses("its option", brothladder_step(b + 8, n - 8, 8, 0), n - 8, 6, 1, 8, 0, 0);
 }
 
 /* A packet with its checksum set, and the reason that the receive check gives; 0 for none. */
@@ -142,7 +155,7 @@ static void reason(uint8_t *b, size_t n, uint8_t hop_limit, const uint8_t *sourc
     if (wanted == 0)
         same(what, r.answer, BROTHLADDER_RECEIVED);
     else
-        refuses(what, &r, sizeof r, 11, wanted, 0, 0, 0);
+        refuses(what, &r, sizeof r, 11, wanted, 0, 0, 0, 0);
 }
 
 static void reasons(void) {
@@ -192,31 +205,69 @@ static void reasons(void) {
         }
         b[7] ^= 1;
         struct brothladder_received r = brothladder_receive(b, n, 255, router, all_routers);
-        refuses("a wrong checksum", &r, sizeof r, 11, BROTHLADDER_REASON_CHECKSUM, 0, 0, 0);
+        refuses("a wrong checksum", &r, sizeof r, 11, BROTHLADDER_REASON_CHECKSUM, 0, 0, 0, 0);
     }
     hex("80 00 00 00 12 34 00 01", b);
     reason(b, 8, 1, global, router, 0);
     b[7] = 2;
     struct brothladder_received r = brothladder_receive(b, 8, 1, global, router);
-    refuses("echo, a wrong checksum", &r, sizeof r, 11, BROTHLADDER_REASON_CHECKSUM, 0, 0, 0);
+    refuses("echo, a wrong checksum", &r, sizeof r, 11, BROTHLADDER_REASON_CHECKSUM, 0, 0, 0, 0);
 }
 
-/* The refusals of a step. */
+/* The refusals of a step, at the start of a packet, behind an advertisement's fixed part, and at a packet's farthest end. */
 static void options_refused(void) {
-    for (size_t i = 0; i < BAD_OPTIONS; i++) {
+    for (size_t i = 0; i < 3 * BAD_OPTIONS; i++) {
+        const struct bad_option *option = &bad_options[i / 3];
         uint8_t b[64];
-        size_t n = hex(bad_options[i].bytes, b);
-        step_refuses(bad_options[i].bytes, brothladder_step(b, n, 0), n, bad_options[i].number, bad_options[i].value[0], bad_options[i].value[1], bad_options[i].value[2]);
+        size_t n = hex(option->bytes, b), offset = i % 3 == 0 ? 0 : i % 3 == 1 ? 16 : LAST_PLACE - n;
+        struct brothladder_stepped s = brothladder_step(b, n, offset, 0);
+        same(option->bytes, s.next, n + 1);
+        s.next = 0;
+        refuses_option(&s, sizeof s, option, offset);
     }
     uint8_t b[32] = {4, 4};
-    struct brothladder_prefix p = brothladder_read_prefix(b, 32);
-    refuses("another type", &p, sizeof p, 8, 3, 4, 4, 4);
+    struct brothladder_prefix p = brothladder_read_prefix(b, 32, 48);
+    refuses("another type", &p, sizeof p, 8, 3, 4, 4, 4, 48);
     b[0] = 3;
     b[1] = 5;
-    p = brothladder_read_prefix(b, 32);
-    refuses("other units", &p, sizeof p, 8, 3, 3, 4, 5);
-    p = brothladder_read_prefix(NULL, 0);
-    refuses("no bytes", &p, sizeof p, 5, 3, 32, 0, 0);
+    p = brothladder_read_prefix(b, 32, 0);
+    refuses("other units", &p, sizeof p, 8, 3, 3, 4, 5, 0);
+    p = brothladder_read_prefix(NULL, 0, 24);
+    refuses("no bytes", &p, sizeof p, 5, 3, 32, 0, 24, 0);
+}
+
+/* A3, refusal 22: the bytes end at the last place that a packet can have, and one byte further. */
+static void offsets(void) {
+    static const uint8_t option[8] = {1, 1}, prefix[32] = {3, 4};
+    struct brothladder_stepped s = brothladder_step(option, 8, 4294967287u, 0);
+    same("the farthest option", s.answer, BROTHLADDER_OPTION);
+    check(s.at == 0 && s.length == 8 && s.next == 8, "the farthest option", "counted in its bytes");
+    same("its place", s.place, 4294967287u);
+    s = brothladder_step(option, 8, 4294967287u, 8);
+    same("the farthest option, then", s.answer, BROTHLADDER_END);
+    same("END has no place", s.place, 0);
+    for (size_t at = 0; at <= 8; at++) {
+        s = brothladder_step(option, 8, 4294967288u, at);
+        step_refuses("one byte further", s, 8, 22, 0, 0, 0, 0);
+        same("one byte further, then", brothladder_step(option, 8, 4294967288u, s.next).answer, BROTHLADDER_STOPPED);
+    }
+    same("one byte further, beyond the bytes", brothladder_step(option, 8, 4294967288u, 9).answer, BROTHLADDER_STOPPED);
+    same("no bytes, at the last place", brothladder_step(NULL, 0, 4294967295u, 0).answer, BROTHLADDER_END);
+    step_refuses("no bytes, one further", brothladder_step(NULL, 0, 4294967296u, 0), 0, 22, 0, 0, 0, 0);
+    step_refuses("one byte at the last offset", brothladder_step(option, 1, SIZE_MAX, 0), 1, 22, 0, 0, 0, 0);
+    same("beyond it", brothladder_step(option, 1, SIZE_MAX, 2).answer, BROTHLADDER_STOPPED);
+
+    struct brothladder_prefix p = brothladder_read_prefix(prefix, 32, 4294967263u);
+    same("the farthest prefix", p.answer, BROTHLADDER_PREFIX);
+    same("its place", p.place, 4294967263u);
+    p = brothladder_read_prefix(prefix, 32, 4294967264u);
+    refuses("a prefix one byte further", &p, sizeof p, 22, 0, 0, 0, 0, 0);
+    p = brothladder_read_prefix(prefix, 31, 4294967264u);
+    refuses("one byte less", &p, sizeof p, 5, 3, 32, 31, 4294967264u, 0);
+    p = brothladder_read_prefix(NULL, 0, 4294967296u);
+    refuses("no prefix, one further", &p, sizeof p, 22, 0, 0, 0, 0, 0);
+    p = brothladder_read_prefix(prefix, 32, SIZE_MAX);
+    refuses("a prefix at the last offset", &p, sizeof p, 22, 0, 0, 0, 0, 0);
 }
 
 /* No bytes at all, as NULL and as an empty buffer. */
@@ -224,14 +275,14 @@ static void empty(void) {
     for (int i = 0; i < 2; i++) {
         uint8_t *nothing = i ? lend(PACKET, HIGH, NULL, 0) : NULL;
         struct brothladder_head h = brothladder_decode(nothing, 0);
-        refuses("decode of nothing", &h, sizeof h, 1, 8, 0, 0, 0);
+        refuses("decode of nothing", &h, sizeof h, 1, 8, 0, 0, 0, 0);
         struct brothladder_verified v = brothladder_verify(nothing, 0, router, router);
-        refuses("verify of nothing", &v, sizeof v, 1, 8, 0, 0, 0);
+        refuses("verify of nothing", &v, sizeof v, 1, 8, 0, 0, 0, 0);
         struct brothladder_received r = brothladder_receive(nothing, 0, 255, router, router);
-        refuses("receive of nothing", &r, sizeof r, 1, 8, 0, 0, 0);
-        same("step in nothing", brothladder_step(nothing, 0, 0).answer, BROTHLADDER_END);
-        same("step beyond nothing", brothladder_step(nothing, 0, 1).answer, BROTHLADDER_STOPPED);
-        same("step far beyond nothing", brothladder_step(nothing, 0, SIZE_MAX).answer, BROTHLADDER_STOPPED);
+        refuses("receive of nothing", &r, sizeof r, 1, 8, 0, 0, 0, 0);
+        same("step in nothing", brothladder_step(nothing, 0, 0, 0).answer, BROTHLADDER_END);
+        same("step beyond nothing", brothladder_step(nothing, 0, 0, 1).answer, BROTHLADDER_STOPPED);
+        same("step far beyond nothing", brothladder_step(nothing, 0, 0, SIZE_MAX).answer, BROTHLADDER_STOPPED);
     }
 }
 
@@ -259,8 +310,8 @@ static void longest(void) {
     same("a long packet is received", r.answer, BROTHLADDER_RECEIVED);
     size_t at = 0, steps = 0;
     struct brothladder_stepped s;
-    while ((s = brothladder_step(b + 8, r.options_length, at)).answer == BROTHLADDER_OPTION) {
-        check(s.at == at && s.next == at + s.length && s.length == 8 * (size_t)b[8 + at + 1], "options touch", "");
+    while ((s = brothladder_step(b + 8, r.options_length, 8, at)).answer == BROTHLADDER_OPTION) {
+        check(s.at == at && s.place == 8 + at && s.next == at + s.length && s.length == 8 * (size_t)b[8 + at + 1], "options touch", "");
         at = s.next;
         steps++;
     }
@@ -276,11 +327,11 @@ static void longest(void) {
         return;
     }
     struct brothladder_head h = brothladder_decode(p, huge);
-    refuses("decode of 4 GiB", &h, sizeof h, 2, 4294967295u, huge, 0, 0);
+    refuses("decode of 4 GiB", &h, sizeof h, 2, 4294967295u, huge, 0, 0, 0);
     struct brothladder_verified v = brothladder_verify(p, huge, router, router);
-    refuses("verify of 4 GiB", &v, sizeof v, 2, 4294967295u, huge, 0, 0);
+    refuses("verify of 4 GiB", &v, sizeof v, 2, 4294967295u, huge, 0, 0, 0);
     r = brothladder_receive(p, huge, 255, router, router);
-    refuses("receive of 4 GiB", &r, sizeof r, 2, 4294967295u, huge, 0, 0);
+    refuses("receive of 4 GiB", &r, sizeof r, 2, 4294967295u, huge, 0, 0, 0);
     h = brothladder_decode(p, huge - 1);
     same("decode of one less", h.answer, BROTHLADDER_UNKNOWN);
     munmap(p, huge);
@@ -302,6 +353,7 @@ void cases(void) {
     dumped();
     reasons();
     options_refused();
+    offsets();
     empty();
     longest();
     pairs();

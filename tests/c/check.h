@@ -33,22 +33,29 @@ uint32_t below(uint32_t n);
 /* A refusal of any call: the structs begin alike. */
 struct refused {
     uint32_t answer, refusal;
-    uint64_t value[4];
+    uint64_t value[5];
 };
 
 /* Whether an answer is this refusal, and says nothing else. */
-void refuses(const char *what, const void *answer, size_t size, uint32_t number, uint64_t v0, uint64_t v1, uint64_t v2, uint64_t v3);
+void refuses(const char *what, const void *answer, size_t size, uint32_t number, uint64_t v0, uint64_t v1, uint64_t v2, uint64_t v3,
+             uint64_t v4);
 
 /* The bytes of a case, written as in docs/RULES.md. */
 size_t hex(const char *text, uint8_t *bytes);
 
-/* Option bytes that are refused, with the refusal. */
+/* Option bytes that are refused, with the refusal; behind its values comes the place. */
 enum { BAD_OPTIONS = 9 };
 extern const struct bad_option {
     const char *bytes;
     uint32_t number;
     uint64_t value[3];
 } bad_options[BAD_OPTIONS];
+
+/* Whether an answer is the refusal of these option bytes, at this place of the packet, and says nothing else. */
+void refuses_option(const void *answer, size_t size, const struct bad_option *option, uint64_t place);
+
+/* The last place that a packet can have. */
+#define LAST_PLACE 4294967295u
 
 extern const uint8_t none[16], router[16], all_routers[16];
 

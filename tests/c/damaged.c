@@ -66,34 +66,46 @@ size_t damage(uint8_t *p, size_t n) {
     }
 }
 
-static unsigned long seen[16], reasons[9], refusals[15];
+enum { REFUSALS = 23 }; /* one more than the last number */
+static unsigned long seen[16], reasons[9], refusals[REFUSALS];
 
 void note(uint32_t answer, uint32_t refusal, uint64_t value) {
     seen[answer & 15]++;
-    if (answer == BROTHLADDER_REFUSED) refusals[refusal % 15]++;
+    if (answer == BROTHLADDER_REFUSED && refusal < REFUSALS) refusals[refusal]++;
     if (refusal == 11) reasons[value % 9]++;
 }
 
+/* Where so many bytes may stand in a packet, and now and then where they may not. */
+static size_t some_offset(size_t length) {
+    switch (below(8)) {
+    case 0: return LAST_PLACE - length;
+    case 1: return LAST_PLACE - length + 1;
+    case 2: return (size_t)chance();
+    case 3: return below(LAST_PLACE);
+    default: return below(64);
+    }
+}
+
 /* The whole walk, and a step at some place that no step handed on. */
-static void walks(const uint8_t *options, size_t length) {
+static void walks(const uint8_t *options, size_t length, size_t offset) {
     enum side side = below(2) ? LOW : HIGH;
     const uint8_t *p = lend(PACKET, side, options, length);
     size_t at = 0;
     struct brothladder_stepped s, w;
     for (int over = 0; over < 3;) {
-        s = brothladder_step(p, length, at);
-        w = plain_step(options, length, at);
+        s = brothladder_step(p, length, offset, at);
+        w = plain_step(options, length, offset, at);
         same_answer("step", &s, &w, sizeof s);
         note(s.answer, s.refusal, 0);
         if (s.answer != BROTHLADDER_OPTION || s.next <= at) over++;
         at = s.next;
     }
     at = below(2) ? below((uint32_t)length + 3) : (size_t)chance();
-    s = brothladder_step(p, length, at);
-    w = plain_step(options, length, at);
+    s = brothladder_step(p, length, offset, at);
+    w = plain_step(options, length, offset, at);
     same_answer("step anywhere", &s, &w, sizeof s);
     if (length >= 32) {
-        struct brothladder_prefix r = brothladder_read_prefix(p, 32), rw = plain_prefix(options, 32);
+        struct brothladder_prefix r = brothladder_read_prefix(p, 32, offset), rw = plain_prefix(options, 32, offset);
         same_answer("prefix", &r, &rw, sizeof r);
         note(r.answer, r.refusal, 0);
     }
@@ -114,7 +126,7 @@ static void reads(const uint8_t *packet, size_t n, uint8_t hop_limit, const uint
     same_answer("receive", &r, &rw, sizeof r);
     note(r.answer, r.refusal, r.value[0]);
     check(stands(PACKET, packet, n) && stands(SOURCE, source, 16) && stands(DESTINATION, destination, 16), "reading", "all is left alone");
-    if (r.answer == BROTHLADDER_RECEIVED) walks(packet + r.options_at, r.options_length);
+    if (r.answer == BROTHLADDER_RECEIVED) walks(packet + r.options_at, r.options_length, r.options_at);
 }
 
 static void often(const char *what, const unsigned long *counts, const char *numbers) {
@@ -145,10 +157,10 @@ void damaged(void) {
             packet[3] = (uint8_t)sum;
         }
         reads(packet, n, below(8) ? 255 : (uint8_t)chance(), source, destination);
-        if (n > 8) walks(packet + 8, n - 8);
+        if (n > 8) walks(packet + 8, n - 8, some_offset(n - 8));
         write_again(packet, n, source, destination);
     }
     often("answer", seen, "1 2 3 4 5 6 7 8 9 10 11");
-    often("refusal", refusals, "1 4 5 6 7 8 9 11");
+    often("refusal", refusals, "1 4 5 6 7 8 9 11 22");
     often("reason", reasons, "1 2 3 4 5 6 7 8");
 }

@@ -1,24 +1,26 @@
-/* docs/RULES.md J1 to J5: option lists cut at every place. What the walk of the joined bytes hands out is worked out from the walks of the parts. */
+/* docs/RULES.md J1 to J5 and A7: option lists cut at every place, each somewhere in a packet. What the walk of the joined bytes hands out is worked out from
+   the walks of the parts, each at its own offset: the indexes are moved, and the places in the packet come out the same. */
 #include "check.h"
 #include <string.h>
 
 enum { LISTS = 1000, MOST = LONGEST / 8 };
 
 struct walk {
-    struct item { size_t at, length; uint32_t type; } items[MOST];
-    size_t count, place; /* where it was refused */
+    struct item { size_t at, length, place; uint32_t type; } items[MOST];
+    size_t count, stop; /* the index where it ended or was refused */
     struct refused end;  /* END, or the refusal */
 };
 
-static struct walk walk_over(const uint8_t *options, size_t length) {
+static struct walk walk_over(const uint8_t *options, size_t length, size_t offset) {
     struct walk w;
     struct brothladder_stepped s;
     memset(&w, 0, sizeof w);
-    for (size_t at = 0; (s = brothladder_step(options, length, at)).answer == BROTHLADDER_OPTION; at = s.next) {
+    for (size_t at = 0; (s = brothladder_step(options, length, offset, at)).answer == BROTHLADDER_OPTION; at = s.next) {
         w.items[w.count].at = s.at;
         w.items[w.count].length = s.length;
+        w.items[w.count].place = s.place;
         w.items[w.count++].type = s.type;
-        w.place = s.next;
+        w.stop = s.next;
     }
     memcpy(&w.end, &s, sizeof w.end);
     return w;
@@ -27,28 +29,28 @@ static struct walk walk_over(const uint8_t *options, size_t length) {
 /* Missing bytes: refusal 7, and the refusal 5 of a remainder of one byte. */
 static int missing(const struct refused *end) { return end->refusal == 7 || (end->refusal == 5 && end->value[2] == 1); }
 
-/* A walk, and behind it another with its places moved. */
+/* A walk, and behind it another with its indexes moved. */
 static struct walk then(struct walk a, const struct walk *b, size_t by) {
     for (size_t i = 0; i < b->count; i++) {
         a.items[a.count] = b->items[i];
         a.items[a.count++].at += by;
     }
     a.end = b->end;
-    a.place = b->place + by;
+    a.stop = b->stop + by;
     return a;
 }
 
 static unsigned long clean, lacking, other;
 
-static void cut_at(const uint8_t *bytes, size_t n, size_t cut) {
-    struct walk a = walk_over(bytes, cut), whole = walk_over(bytes, n), wanted = a;
+static void cut_at(const uint8_t *bytes, size_t n, size_t offset, size_t cut) {
+    struct walk a = walk_over(bytes, cut, offset), whole = walk_over(bytes, n, offset), wanted = a;
     if (a.end.answer == BROTHLADDER_END) {
-        struct walk b = walk_over(bytes + cut, n - cut);
+        struct walk b = walk_over(bytes + cut, n - cut, offset + cut);
         wanted = then(a, &b, cut);
         clean++;
     } else if (missing(&a.end)) {
-        struct walk unread = walk_over(bytes + a.place, n - a.place);
-        wanted = then(a, &unread, a.place);
+        struct walk unread = walk_over(bytes + a.stop, n - a.stop, offset + a.stop);
+        wanted = then(a, &unread, a.stop);
         lacking++;
     } else {
         other++;
@@ -62,7 +64,10 @@ void joined(void) {
         uint8_t list[LONGEST] = {0};
         size_t n = some_options(list);
         for (uint32_t k = below(3); k > 0; k--) n = damage(list, n);
-        for (size_t cut = 0; cut <= n; cut++) cut_at(list, n, cut);
+        /* near the packet's start, anywhere, or as far on as they may stand */
+        uint32_t most = LAST_PLACE - (uint32_t)n, where = below(3);
+        size_t offset = where == 0 ? below(64) : where == 1 ? below(most) : most;
+        for (size_t cut = 0; cut <= n; cut++) cut_at(list, n, offset, cut);
     }
     check(clean >= 500 && lacking >= 500 && other >= 500, "joined", "each way to end comes often");
 }

@@ -6,44 +6,46 @@
     __extension__ _Static_assert(offsetof(struct brothladder_##name, member) == place                                         \
                                      && sizeof(((struct brothladder_##name *)0)->member) == bytes,                            \
                                  #name "." #member)
-#define BEGINS(name) AT(name, answer, 0, 4); AT(name, refusal, 4, 4); AT(name, value, 8, 32)
+#define BEGINS(name) AT(name, answer, 0, 4); AT(name, refusal, 4, 4); AT(name, value, 8, 40)
 #define ENDS(name, bytes) __extension__ _Static_assert(sizeof(struct brothladder_##name) == bytes, #name)
 
 BEGINS(head);
-AT(head, type, 40, 2);
-AT(head, code, 42, 2);
-AT(head, checksum, 44, 4);
-AT(head, field, 48, 16);
-ENDS(head, 64);
+AT(head, type, 48, 2);
+AT(head, code, 50, 2);
+AT(head, checksum, 52, 4);
+AT(head, field, 56, 16);
+ENDS(head, 72);
 
 BEGINS(verified);
-ENDS(verified, 40);
+ENDS(verified, 48);
 
 BEGINS(stepped);
-AT(stepped, kind, 40, 4);
-AT(stepped, type, 44, 4);
-AT(stepped, at, 48, 8);
-AT(stepped, length, 56, 8);
-AT(stepped, next, 64, 8);
-ENDS(stepped, 72);
+AT(stepped, kind, 48, 4);
+AT(stepped, type, 52, 4);
+AT(stepped, at, 56, 8);
+AT(stepped, length, 64, 8);
+AT(stepped, next, 72, 8);
+AT(stepped, place, 80, 8);
+ENDS(stepped, 88);
 
 BEGINS(received);
-AT(received, options_at, 40, 8);
-AT(received, options_length, 48, 8);
-ENDS(received, 56);
+AT(received, options_at, 48, 8);
+AT(received, options_length, 56, 8);
+ENDS(received, 64);
 
 BEGINS(written);
-AT(written, length, 40, 8);
-ENDS(written, 48);
+AT(written, length, 48, 8);
+ENDS(written, 56);
 
 BEGINS(prefix);
-AT(prefix, prefix_length, 40, 4);
-AT(prefix, on_link, 44, 2);
-AT(prefix, autonomous, 46, 2);
-AT(prefix, valid_lifetime, 48, 4);
-AT(prefix, preferred_lifetime, 52, 4);
-AT(prefix, prefix, 56, 16);
-ENDS(prefix, 72);
+AT(prefix, prefix_length, 48, 4);
+AT(prefix, on_link, 52, 2);
+AT(prefix, autonomous, 54, 2);
+AT(prefix, valid_lifetime, 56, 4);
+AT(prefix, preferred_lifetime, 60, 4);
+AT(prefix, prefix, 64, 16);
+AT(prefix, place, 80, 8);
+ENDS(prefix, 88);
 
 /* of this head the field at `index` is `value`, and the others are 0 */
 static void alone(const char *bytes, size_t index, uint32_t value) {

@@ -33,7 +33,7 @@ static size_t fixed_part(int type) {
 static bool neighbor_discovery(int type) { return 133 <= type && type <= 137; }
 
 /* Refusals 1 and 2; 0 for none. */
-static uint32_t bad_length(size_t length, uint64_t value[4]) {
+static uint32_t bad_length(size_t length, uint64_t value[5]) {
     if (length >= 8 && length <= 4294967295u) return 0;
     value[0] = length < 8 ? 8 : 4294967295u;
     value[1] = length;
@@ -113,45 +113,53 @@ struct brothladder_verified plain_verify(const uint8_t *packet, size_t length, c
     return v;
 }
 
-/* W4: the refusal of what stands at the head of the bytes that are left; 0 for an option. */
-static uint32_t bad_option(const uint8_t *p, size_t left, uint64_t value[4]) {
+/* W4 and A2: the refusal of what stands at the head of the bytes that are left, with its place in the packet; 0 for an option. */
+static uint32_t bad_option(const uint8_t *p, size_t left, size_t place, uint64_t value[5]) {
     value[0] = p[0];
+    value[3] = place;
     if (left < 2) return value[1] = 2, value[2] = left, 5;
     size_t bytes = 8 * (size_t)p[1];
-    if (bytes == 0) return 6;
+    if (bytes == 0) return value[1] = place, value[3] = 0, 6;
     if (left < bytes) return value[1] = bytes, value[2] = left, 7;
     if (p[0] == 3 && bytes != 32) return value[1] = 32, value[2] = bytes, 5;
     if (p[0] == 5 && bytes != 8) return value[1] = 8, value[2] = bytes, 5;
-    return value[0] = 0, 0;
+    return value[0] = value[3] = 0;
 }
 
-struct brothladder_stepped plain_step(const uint8_t *options, size_t length, size_t at) {
+/* A3, refusal 22: the bytes would reach beyond the longest packet. */
+static bool far(size_t offset, size_t length) { return offset > 4294967295u || length > 4294967295u - offset; }
+
+struct brothladder_stepped plain_step(const uint8_t *options, size_t length, size_t offset, size_t at) {
     struct brothladder_stepped s;
     memset(&s, 0, sizeof s);
     s.next = at;
-    if (at >= length) return s.answer = at == length ? BROTHLADDER_END : BROTHLADDER_STOPPED, s;
+    if (at > length) return s.answer = BROTHLADDER_STOPPED, s;
+    if (far(offset, length))
+        s.refusal = 22;
+    else if (at == length)
+        return s.answer = BROTHLADDER_END, s;
+    else
+        s.refusal = bad_option(options + at, length - at, offset + at, s.value);
+    if (s.refusal != 0) return s.answer = BROTHLADDER_REFUSED, s.next = length + 1, s;
     const uint8_t *p = options + at;
-    if ((s.refusal = bad_option(p, length - at, s.value)) != 0) {
-        s.answer = BROTHLADDER_REFUSED;
-        s.next = length + 1;
-        return s;
-    }
     s.answer = BROTHLADDER_OPTION;
     s.kind = p[0] <= 5 ? p[0] : 0;
     s.type = p[0];
     s.at = at;
     s.length = 8 * (size_t)p[1];
     s.next = at + s.length;
+    s.place = offset + at;
     return s;
 }
 
-/* The refusal of a whole walk; 0 for a clean one. `source_option` says whether a type 1 is among the options. */
-static uint32_t bad_walk(const uint8_t *p, size_t left, uint64_t value[4], bool *source_option) {
+/* The refusal of a whole walk, from a place of the packet on; 0 for a clean one. `source_option` says whether a type 1 is among the options. */
+static uint32_t bad_walk(const uint8_t *p, size_t left, size_t place, uint64_t value[5], bool *source_option) {
     uint32_t refusal = 0;
     *source_option = false;
-    while (left > 0 && (refusal = bad_option(p, left, value)) == 0) {
+    while (left > 0 && (refusal = bad_option(p, left, place, value)) == 0) {
         *source_option = *source_option || p[0] == 1;
         left -= 8 * (size_t)p[1];
+        place += 8 * (size_t)p[1];
         p += 8 * (size_t)p[1];
     }
     return refusal;
@@ -168,14 +176,15 @@ static bool solicited_node(const uint8_t *a) {
 /* The reason why a packet of 8 bytes at least does not pass; 0 if it does. */
 static uint32_t reason(const uint8_t *p, size_t length, uint8_t hop_limit, const uint8_t *source, const uint8_t *destination) {
     int type = p[0];
-    uint64_t value[4];
+    uint64_t value[5];
     bool source_option;
     if (!neighbor_discovery(type)) return sums_up(p, length, source, destination) ? 0 : 2;
     if (hop_limit != 255) return 1;
     if (!sums_up(p, length, source, destination)) return 2;
     if (p[1] != 0) return 3;
-    if (length < 8 + fixed_part(type)) return 4;
-    if (bad_walk(p + 8 + fixed_part(type), length - 8 - fixed_part(type), value, &source_option)) return 5;
+    size_t start = 8 + fixed_part(type);
+    if (length < start) return 4;
+    if (bad_walk(p + start, length - start, start, value, &source_option)) return 5;
     const uint8_t *target = p + 8, *field = p + 24;
     switch (type) {
     case 133:
@@ -229,7 +238,7 @@ struct brothladder_written plain_write(uint8_t type, uint8_t code, uint32_t byte
     if (neighbor_discovery(type) && code == 0) {
         size_t fixed = fixed_part(type);
         if (payload_length < fixed) return w.value[0] = fixed, w.value[1] = payload_length, w.refusal = 4, w;
-        if ((w.refusal = bad_walk(payload + fixed, payload_length - fixed, w.value, &source_option)) != 0) return w;
+        if ((w.refusal = bad_walk(payload + fixed, payload_length - fixed, 8 + fixed, w.value, &source_option)) != 0) return w;
     }
     if (out_length < 8 + payload_length) return w.value[0] = 8 + payload_length, w.refusal = 9, w;
     uint32_t rest = kept(type, code, bytes5to8);
@@ -245,13 +254,15 @@ struct brothladder_written plain_write(uint8_t type, uint8_t code, uint32_t byte
 }
 
 /* O1 and O4: a prefix information option. */
-struct brothladder_prefix plain_prefix(const uint8_t *option, size_t length) {
+struct brothladder_prefix plain_prefix(const uint8_t *option, size_t length, size_t offset) {
     struct brothladder_prefix p;
     memset(&p, 0, sizeof p);
     p.answer = BROTHLADDER_REFUSED;
+    if (far(offset, length)) return p.refusal = 22, p;
     p.value[0] = 3;
-    if (length != 32) return p.value[1] = 32, p.value[2] = length, p.refusal = 5, p;
-    if (option[0] != 3 || option[1] != 4) return p.value[1] = option[0], p.value[2] = 4, p.value[3] = option[1], p.refusal = 8, p;
+    if (length != 32) return p.value[1] = 32, p.value[2] = length, p.value[3] = offset, p.refusal = 5, p;
+    if (option[0] != 3 || option[1] != 4)
+        return p.value[1] = option[0], p.value[2] = 4, p.value[3] = option[1], p.value[4] = offset, p.refusal = 8, p;
     p.value[0] = 0;
     p.answer = BROTHLADDER_PREFIX;
     p.prefix_length = option[2];
@@ -260,5 +271,6 @@ struct brothladder_prefix plain_prefix(const uint8_t *option, size_t length) {
     p.valid_lifetime = number(option + 4, 4);
     p.preferred_lifetime = number(option + 8, 4);
     memcpy(p.prefix, option + 16, 16);
+    p.place = offset;
     return p;
 }

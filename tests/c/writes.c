@@ -9,21 +9,30 @@ static void write_refused(void) {
     memset(out, 0x11, sizeof out);
     memcpy(before, out, sizeof out);
     struct brothladder_written w = brothladder_write(135, 0, 0, none, 15, router, all_routers, out, sizeof out);
-    refuses("P14", &w, sizeof w, 4, 16, 15, 0, 0);
+    refuses("P14", &w, sizeof w, 4, 16, 15, 0, 0, 0);
     for (size_t i = 0; i < BAD_OPTIONS; i++) {
         size_t n = hex(bad_options[i].bytes, b + 8);
         w = brothladder_write(134, 0, 0, b, 8 + n, router, all_routers, out, sizeof out);
-        refuses(bad_options[i].bytes, &w, sizeof w, bad_options[i].number, bad_options[i].value[0], bad_options[i].value[1], bad_options[i].value[2], 0);
+        refuses_option(&w, sizeof w, &bad_options[i], 16);
+    }
+    /* 01 00 behind the fixed part: 6 (1, place), and the place counts from the packet's first byte */
+    static const size_t places[] = {8, 16, 24, 24, 40};
+    memset(b, 0, sizeof b);
+    for (size_t i = 0; i < 5; i++) {
+        b[places[i] - 8] = 1;
+        w = brothladder_write((uint8_t)(133 + i), 0, 0, b, places[i] - 8 + 2, router, all_routers, out, sizeof out);
+        refuses("a length of 0 behind the fixed part", &w, sizeof w, 6, 1, places[i], 0, 0, 0);
+        b[places[i] - 8] = 0;
     }
     w = brothladder_write(128, 0, 0, b, 16, router, all_routers, out, 23);
-    refuses("23 bytes for 24", &w, sizeof w, 9, 24, 0, 0, 0);
+    refuses("23 bytes for 24", &w, sizeof w, 9, 24, 0, 0, 0, 0);
     check(memcmp(out, before, sizeof out) == 0, "refused", "the output is left alone");
 }
 
 static void write_empty(void) {
     uint8_t out[8];
     struct brothladder_written w = brothladder_write(128, 0, 0, NULL, 0, router, router, NULL, 0);
-    refuses("write into nothing", &w, sizeof w, 9, 8, 0, 0, 0);
+    refuses("write into nothing", &w, sizeof w, 9, 8, 0, 0, 0, 0);
     w = brothladder_write(128, 0, 0x00010002, NULL, 0, router, router, out, 8);
     same("write of no payload", w.answer, BROTHLADDER_WRITTEN);
     same("its length", w.length, 8);
@@ -37,9 +46,9 @@ static void write_longest(void) {
     check(memcmp(out + 8, b, 65527) == 0 && out[65535] == 0, "65,535 bytes", "the payload and no more");
     same("validate", brothladder_verify(out, w.length, router, all_routers).answer, BROTHLADDER_VALID);
     w = brothladder_write(128, 0, 0, b, 65528, router, all_routers, out, sizeof out);
-    refuses("one more", &w, sizeof w, 3, 65527, 65528, 0, 0);
+    refuses("one more", &w, sizeof w, 3, 65527, 65528, 0, 0, 0);
     w = brothladder_write(128, 0, 0, b, 65527, router, all_routers, out, 65534);
-    refuses("no room for it", &w, sizeof w, 9, 65535, 0, 0, 0);
+    refuses("no room for it", &w, sizeof w, 9, 65535, 0, 0, 0, 0);
 }
 
 /* All types with all codes: what is reserved is written 0, and all of bytes 4 to 7 of an unknown pair is kept. */
@@ -77,7 +86,7 @@ void write_again(const uint8_t *packet, size_t n, const uint8_t *source, const u
 }
 
 void writes(void) {
-    same("written has no hole", sizeof(struct brothladder_written), 40 + sizeof(size_t));
+    same("written has no hole", sizeof(struct brothladder_written), 48 + sizeof(size_t));
     write_refused();
     write_empty();
     write_longest();

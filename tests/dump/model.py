@@ -17,11 +17,11 @@ def valid(source, destination, packet):
     return total == 65535
 
 
-def walk(options):
-    """The options as (place, type, bytes), and how the walk ends: None, or (refusal, place)."""
-    found, at = [], 0
-    while at < len(options):
-        rest = options[at:]
+def walk(packet):
+    """The options behind the fixed part as (place in the packet, type, bytes), and how the walk ends: None, or (refusal, place)."""
+    found, at = [], 8 + FIXED[packet[0]]
+    while at < len(packet):
+        rest = packet[at:]
         if len(rest) < 2:
             return found, (5, at)
         if rest[1] == 0:
@@ -46,10 +46,9 @@ def receive(hops, source, destination, packet):
         return 2
     if packet[1] != 0:
         return 3
-    start = 8 + FIXED[kind]
-    if len(packet) < start:
+    if len(packet) < 8 + FIXED[kind]:
         return 4
-    options, refused = walk(packet[start:])
+    options, refused = walk(packet)
     if refused:
         return 5
     nobody, local = source == bytes(16), source[:2] == b"\xfe\x80"
@@ -76,7 +75,7 @@ def packet_lines(hops, source, destination, packet):
     if known and packet[0] in FIXED:
         if len(packet) < 8 + FIXED[packet[0]]:
             return lines + ["refused 4"]
-        options, refused = walk(packet[8 + FIXED[packet[0]]:])
+        options, refused = walk(packet)
         lines += [f"opt {at} type {kind} bytes {size}" for at, kind, size in options]
         lines.append(f"refused {refused[0]} at {refused[1]}" if refused else f"end {len(options)}")
     return lines

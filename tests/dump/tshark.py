@@ -1,10 +1,12 @@
 #!/usr/bin/env python3
 """tshark.py JSONL < LISTING: holds a listing to what tshark said of the same packets: place, checksum field and verdict, and for types 133 to 137
-with code 0 the options with place, type and length. Prints what differs; the status is 1 where anything does."""
+with code 0 the options with place, type and length. Its places count from the first option, the listing's from the packet's first byte. Prints what
+differs; the status is 1 where anything does."""
 import json
 import re
 import sys
 
+FIXED = {133: 0, 134: 8, 135: 16, 136: 16, 137: 32}
 told = [json.loads(line) for line in open(sys.argv[1])]
 records, differ = [], 0
 for line in sys.stdin.read().split("\n"):
@@ -21,7 +23,7 @@ for ours, theirs in zip(records, told):
     shark = theirs["tshark"]
     wanted = {"at": theirs["at"], "length": theirs["len"], "sum": shark["checksum"], "verdict": "ok" if shark["sum"] == "good" else "bad"}
     if 133 <= shark["type"] <= 137 and shark["code"] == 0:
-        wanted["options"] = [(o["at"], o["type"], 8 * o["units"]) for o in shark["options"]]
+        wanted["options"] = [(8 + FIXED[shark["type"]] + o["at"], o["type"], 8 * o["units"]) for o in shark["options"]]
     for key, value in wanted.items():
         if ours[key] != value:
             differ += 1

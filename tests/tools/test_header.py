@@ -9,7 +9,7 @@ import sys
 import tempfile
 
 root = os.path.dirname(os.path.dirname(os.path.dirname(os.path.abspath(__file__))))
-HEADER, PREFIX, DECODE, STEP, ANSWER = "include/brothladder.h", "crates/c_prefix/src/lib.rt", "crates/c_decode/src/lib.rt", "crates/c_step/src/lib.rt", "crates/c_answer/src/lib.rt"
+HEADER, PREFIX, DECODE, STEP, ANSWER, VERSION = "include/brothladder.h", *(f"crates/c_{c}/src/lib.rt" for c in ("prefix", "decode", "step", "answer", "version"))
 
 
 def copied(to):
@@ -59,11 +59,13 @@ def fields(a, b):
 
 lifetimes = {HEADER: exchanged("uint32_t valid_lifetime;", "uint32_t preferred_lifetime;"), PREFIX: exchanged("pub valid_lifetime: u32", "pub preferred_lifetime: u32")}
 places = {HEADER: exchanged("    size_t at;", "    size_t next;"), STEP: exchanged("pub at: usize", "pub next: usize")}
+place = {HEADER: exchanged("    size_t at;", "    size_t place; /* where the option begins in the packet: offset + at */"), STEP: exchanged("pub at: usize", "pub place: usize")}
 wide = {HEADER: instead("uint16_t on_link;", "uint32_t on_link;"), PREFIX: instead("pub on_link: u16", "pub on_link: u32")}
 MISTAKES = [
     ("nothing", {}, []),
     ("two members exchanged in source and header", lifetimes, ["layout"]),
     ("two places exchanged in source and header", places, ["layout"]),
+    ("index and place exchanged in source and header", place, ["layout"]),
     ("a member made wider in source and header", wide, ["layout"]),
     ("two members exchanged in the header", {HEADER: lifetimes[HEADER]}, ["header", "layout"]),
     ("two members exchanged in the source", {PREFIX: lifetimes[PREFIX]}, ["header"]),
@@ -74,7 +76,14 @@ MISTAKES = [
     ("an index left out", {HEADER: instead("#define BROTHLADDER_FIELD_OVERRIDE 2", "")}, ["header", "layout"]),
     ("an answer with another number", {ANSWER: instead("END: u32 = 7", "END: u32 = 12")}, ["header"]),
     ("a refusal with another number", {HEADER: instead("ZERO_LENGTH 6u", "ZERO_LENGTH 5u")}, ["header"]),
-    ("a member without its place", {"tests/c/layout.c": instead("AT(stepped, next, 64, 8);\n", "")}, ["header"]),
+    ("the refusal of a far offset with another number", {HEADER: instead("FAR_OFFSET 22u", "FAR_OFFSET 15u")}, ["header"]),
+    ("offset and place exchanged in a prototype", {HEADER: instead("size_t offset, size_t at);", "size_t at, size_t offset);")}, ["header"]),
+    ("an argument left out of a prototype", {HEADER: instead("*option, size_t length, size_t offset);", "*option, size_t length);")}, ["header"]),
+    ("another version in the header", {HEADER: instead("VERSION 2u", "VERSION 3u")}, ["header"]),
+    ("another version in the source", {VERSION: instead("VERSION: u32 = 2", "VERSION: u32 = 3")}, ["header"]),
+    ("a version whose call keeps its name", {HEADER: instead("VERSION 2u", "VERSION 3u"), VERSION: instead("VERSION: u32 = 2", "VERSION: u32 = 3")}, ["header"]),
+    ("no reference to the version", {HEADER: instead("(void) = brothladder_version_2;", "(void) = 0;")}, ["header"]),
+    ("a member without its place", {"tests/c/layout.c": instead("AT(stepped, next, 72, 8);\n", "")}, ["header"]),
 ]
 failed = 0
 for what, changes, wanted in MISTAKES:

@@ -1,4 +1,4 @@
--- The refusal that a struct for C tells by its number and the four values: none is lost, since the values that a refusal has are the first ones.
+-- The refusal that a struct for C tells by its number and the five values: none is lost, since the values that a refusal has are the first ones.
 -- Assumes nothing.
 use Prim.Native.Nat.{ℕ}
 use mathlib.Core.Path.{_≡_}

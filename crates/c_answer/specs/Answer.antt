@@ -55,4 +55,4 @@ rising n (x ∷ l) = ltb n x && rising x l
 
 -- the values of a refusal where nothing is refused
 abbrev pub none : List ℕ
-none = 0 ∷ 0 ∷ 0 ∷ 0 ∷ []
+none = 0 ∷ 0 ∷ 0 ∷ 0 ∷ 0 ∷ []

@@ -3,13 +3,13 @@
 -- Assumes nothing.
 use Prim.Native.Nat.{ℕ}
 use mathlib.Core.Path.{_≡_, refl}
-use mathlib.Core.List.{List, _∷_}
+use mathlib.Core.List.{List, [], _∷_}
 use borrow.Author.Tests.{ne-eqb}
 use Rattle.wire.proofs.Cases.{cases}
 use Rattle.message_table.proofs.View.{Known, unreachable, tooBig, exceeded, problem, echoRequest, echoReply, routerSolicitation, routerAdvertisement, neighborSolicitation, neighborAdvertisement, redirect}
 use Rattle.icmpv6_type.specs.Value.{fieldsOf}
-use Rattle.c_answer.specs.Answer.{KNOWN, none}
-use Rattle.c_decode.specs.Head.{fieldsFor, head, headOfValue}
+use Rattle.c_answer.specs.Answer.{KNOWN}
+use Rattle.c_decode.specs.Head.{fields, fieldsFor, head, headOfValue}
 
 pub known-head : (sum : ℕ) (b : List ℕ) {k c : ℕ} → Known k c → headOfValue sum (k ∷ fieldsOf k c b) ≡ head KNOWN k c sum (fieldsFor k b)
 known-head sum b (unreachable h) = refl
@@ -32,7 +32,7 @@ module _ (k : ℕ) (b : List ℕ)
     (n134 : k ≡ 134 → ⊥)
     (n136 : k ≡ 136 → ⊥)
   where
-    pub keeps-none : none ≡ fieldsFor k b
+    pub keeps-none : fields [] ≡ fieldsFor k b
     keeps-none =
         cases k 0 (λ e. rw e)
         (λ n0.

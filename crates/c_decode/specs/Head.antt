@@ -3,7 +3,7 @@
 -- Assumes nothing.
 use Prim.Native.Nat.{ℕ}
 use mathlib.Core.Bool.{cond}
-use mathlib.Core.List.{List, _∷_}
+use mathlib.Core.List.{List, [], _∷_}
 use lib.Dec.{eqb}
 use lib.ListN.{getD, drop}
 use Rattle.paper.specs.Paper.{Paper}
@@ -19,9 +19,13 @@ byForm v unknown coded other =
     cond (eqb (getD v 0 0) 0) unknown
     (cond (eqb (getD v 0 0) 1) coded (cond (eqb (getD v 0 0) 3) coded (cond (eqb (getD v 0 0) 4) coded other)))
 
+-- four numbers of a list, 0 past its last
+abbrev pub fields : List ℕ → List ℕ
+fields l = getD l 0 0 ∷ getD l 1 0 ∷ getD l 2 0 ∷ getD l 3 0 ∷ []
+
 -- what the value keeps of bytes 4 to 7
 abbrev pub keptOf : List ℕ → List ℕ
-keptOf v = slots (byForm v (drop 3 v) (drop 2 v) (drop 1 v))
+keptOf v = fields (byForm v (drop 3 v) (drop 2 v) (drop 1 v))
 
 -- the same by type and bytes: the code, whichever it is, is no part of it
 abbrev pub fieldsFor : ℕ → List ℕ → List ℕ
@@ -59,5 +63,5 @@ headFor p =
       «icmp_type» = 0;
       code = 0;
       checksum = 0;
-      field = none;
+      field = fields [];
     })

@@ -15,7 +15,7 @@ use packet_length::PacketLength;
 pub struct Head {
     pub answer: u32,
     pub refusal: u32,
-    pub value: [u64; 4],
+    pub value: [u64; 5],
     pub icmp_type: u16,
     pub code: u16,
     pub checksum: u32,
@@ -86,7 +86,7 @@ fn head_of(kind: u8, code: u8, packet: &[u8]) -> Head
         return Head {
             answer: c_answer::KNOWN,
             refusal: 0,
-            value: [0, 0, 0, 0],
+            value: [0, 0, 0, 0, 0],
             icmp_type: kind as u16,
             code: code as u16,
             checksum: checksum as u32,
@@ -96,7 +96,7 @@ fn head_of(kind: u8, code: u8, packet: &[u8]) -> Head
     Head {
         answer: c_answer::UNKNOWN,
         refusal: 0,
-        value: [0, 0, 0, 0],
+        value: [0, 0, 0, 0, 0],
         icmp_type: kind as u16,
         code: code as u16,
         checksum: checksum as u32,

@@ -18,7 +18,7 @@ use Rattle.c_prefix.specs.Prefix.{prefixFor}
 abbrev prefixFrom : Prefix → PrefixInformationRead
 prefixFrom p =
     record {
-      answer = cond (eqb (p .answer) PREFIX) Accepted (NotRead (why (p .refusal) (p .value)));
+      answer = cond (eqb (p .answer) PREFIX) (Accepted (p .place)) (NotRead (why (p .refusal) (p .value)));
       information =
           record {
             «prefix_length» = p .«prefix_length»;
@@ -39,7 +39,7 @@ read a i = record { answer = a; information = i }
 
 by : (a : NdpOptionRead) (i : PrefixInformation) → prefixFrom (prefixFor (prefixTold (read a i))) ≡ read a i
 unfolding prefixFor
-by Accepted i = simp (flag-back (i .«on_link»), flag-back (i .«autonomous_address_configuration»))
+by (Accepted place) i = simp (flag-back (i .«on_link»), flag-back (i .«autonomous_address_configuration»))
 by (NotRead r) i =
     simp (refusal-numbered r, flag-back (i .«on_link»), flag-back (i .«autonomous_address_configuration»)) (rw (why-back r))
 

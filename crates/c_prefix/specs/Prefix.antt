@@ -4,15 +4,16 @@ use Prim.Native.Nat.{ℕ}
 use mathlib.Core.Bool.{cond}
 use mathlib.Core.List.{List}
 use lib.Dec.{eqb}
+use lib.ListN.{getD}
 use Rattle.refusal.specs.Paper.{slots}
 use Rattle.wire.specs.Wire.{flagOf}
 use Rattle.prefix_information.specs.declared.PrefixInformation.{PrefixInformation}
 use Rattle.prefix_information.specs.Prefix.{PrefixTold}
-use Rattle.c_answer.specs.Answer.{REFUSED, PREFIX}
+use Rattle.c_answer.specs.Answer.{REFUSED, PREFIX, none}
 use Rattle.c_prefix.specs.declared.Prefix.{Prefix}
 
-abbrev pub prefix : ℕ → ℕ → List ℕ → PrefixInformation → Prefix
-prefix answer refusal value i =
+abbrev pub prefix : ℕ → ℕ → List ℕ → PrefixInformation → ℕ → Prefix
+prefix answer refusal value i place =
     record {
       answer = answer;
       refusal = refusal;
@@ -23,8 +24,10 @@ prefix answer refusal value i =
       «valid_lifetime» = i .«valid_lifetime»;
       «preferred_lifetime» = i .«preferred_lifetime»;
       prefix = i .prefix;
+      place = place;
     }
 
 unfoldable pub prefixFor : PrefixTold → Prefix
 prefixFor t =
-    prefix (cond (eqb (t .paper .number) 0) PREFIX REFUSED) (t .paper .number) (slots (t .paper .values)) (t .information)
+    cond (eqb (t .paper .number) 0) (prefix PREFIX 0 none (t .information) (getD (t .paper .values) 0 0))
+    (prefix REFUSED (t .paper .number) (slots (t .paper .values)) (t .information) 0)

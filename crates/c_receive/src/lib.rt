@@ -8,7 +8,7 @@ use receive::receive_check;
 pub struct Received {
     pub answer: u32,
     pub refusal: u32,
-    pub value: [u64; 4],
+    pub value: [u64; 5],
     pub options_at: usize,
     pub options_length: usize,
 }
@@ -29,7 +29,7 @@ pub extern "C" fn brothladder_receive(
             return Received {
                 answer: c_answer::RECEIVED,
                 refusal: 0,
-                value: [0, 0, 0, 0],
+                value: [0, 0, 0, 0, 0],
                 options_at: at,
                 options_length: packet.len() - at,
             };

@@ -18,7 +18,7 @@ abbrev stepFrom : Stepped → Step
 stepFrom s =
     cond (eqb (s .answer) OPTION)
     (Handed
-    (record { kind = kindBack (s .kind); «option_type» = record { 0 = s .«option_type» }; at = s .at; len = s .length })
+    (record { kind = kindBack (s .kind); «option_type» = record { 0 = s .«option_type» }; at = s .at; len = s .length; place = s .place })
     (record { at = s .next }))
     (cond (eqb (s .answer) END) End
     (cond (eqb (s .answer) STOPPED) Stopped (StepRefused (why (s .refusal) (s .value)) (record { at = s .next }))))

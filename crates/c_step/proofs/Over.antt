@@ -1,7 +1,7 @@
 -- A walk that is over stays over: at the place that END answers it is END again, at the one that a refusal or STOPPED answers it is STOPPED.
 -- END and STOPPED answer the place that they were asked at; a refusal answers one beyond the bytes.
 -- Assumes nothing.
-use Prim.Native.Nat.{ℕ, _+_}
+use Prim.Native.Nat.{ℕ, _+_, _≤_}
 use mathlib.Core.Bool.{Bool, true, false, cond}
 use mathlib.Core.Path.{_≡_, refl}
 use mathlib.Core.List.{List}
@@ -9,10 +9,12 @@ use native.Mathlib.Omega.{arith}
 use lib.Dec.{eqb, ltb}
 use lib.ListN.{length, drop}
 use borrow.Author.Tests.{ltb-true, ltb-false, ne-eqb}
+use Rattle.packet_place.specs.Place.{isFar}
+use Rattle.packet_place.proofs.Laws.{is-near, is-beyond}
 use Rattle.ndp_walk.specs.Judge.{Judgement, Over, Bad, Good, judge}
 use Rattle.ndp_walk.specs.Step.{answer}
 use Rattle.ndp_walk.proofs.Judging.{refusal-numbered}
-use Rattle.ndp_walk.proofs.Steps.{beyond, within}
+use Rattle.ndp_walk.proofs.Steps.{beyond, too-far, within}
 use Rattle.ndp_options.specs.Rule.{rule}
 use Rattle.ndp_options.specs.Walk.{stepOf}
 use Rattle.ndp_options.proofs.Rule.{numbered}
@@ -21,26 +23,31 @@ use Rattle.c_step.specs.declared.Stepped.{Stepped}
 use Rattle.c_step.specs.Stepped.{steppedFor}
 
 -- what `brothladder_step` answers
-abbrev step : List ℕ → ℕ → Stepped
-step s at = steppedFor at (stepOf s at)
+abbrev step : ℕ → List ℕ → ℕ → Stepped
+step o s at = steppedFor at (stepOf o s at)
 
 abbrev afterwards : ℕ → ℕ
 afterwards answer = cond (eqb answer END) END STOPPED
 
-pub stays-over : (s : List ℕ) (at : ℕ) → (step s at .answer ≡ OPTION → ⊥) → step s (step s at .next) .answer ≡ afterwards (step s at .answer)
+-- at every offset
+pub stays-over : (o : ℕ) (s : List ℕ) (at : ℕ) → (step o s at .answer ≡ OPTION → ⊥) → step o s (step o s at .next) .answer ≡ afterwards (step o s at .answer)
 unfolding steppedFor
-stays-over s at = by (ltb (length s) at) refl
+stays-over o s at = by (ltb (length s) at) refl
   where
-    past : step s (length s + 1) .answer ≡ STOPPED
-    past = simp (beyond rule s (length s + 1) (omega arith) .1)
+    past : step o s (length s + 1) .answer ≡ STOPPED
+    past = simp (beyond rule o s (length s + 1) (omega arith) .1)
 
-    judged : (v : Judgement) → judge rule (drop at s) ≡ v → stepOf s at ≡ answer (length s) at v → (step s at .answer ≡ OPTION → ⊥) → step s (step s at .next) .answer ≡ afterwards (step s at .answer)
+    judged : (v : Judgement) → judge rule (drop at s) ≡ v → stepOf o s at ≡ answer o (length s) at v → (step o s at .answer ≡ OPTION → ⊥) → step o s (step o s at .next) .answer ≡ afterwards (step o s at .answer)
     judged Over j e none = simp e
     judged (Bad why) j e none =
         let n = ne-eqb (why .number) 0 (λ z. omega (arith, refusal-numbered rule numbered (drop at s) j)) in
         simp (e, n) past
     judged (Good kind type len) j e none = absurd (none (simp e))
 
-    by : (b : Bool) → ltb (length s) at ≡ b → (step s at .answer ≡ OPTION → ⊥) → step s (step s at .next) .answer ≡ afterwards (step s at .answer)
-    by true e none = simp (beyond rule s at (ltb-true _ _ e) .1)
-    by false e none = judged (judge rule (drop at s)) refl (within rule s at (ltb-false _ _ e) refl) none
+    inside : (b : Bool) → isFar o (length s) ≡ b → at ≤ length s → (step o s at .answer ≡ OPTION → ⊥) → step o s (step o s at .next) .answer ≡ afterwards (step o s at .answer)
+    inside true f h none = simp (too-far rule o s at (is-beyond o (length s) f) h) past
+    inside false f h none = judged (judge rule (drop at s)) refl (within rule o s at (is-near o (length s) f) h refl) none
+
+    by : (b : Bool) → ltb (length s) at ≡ b → (step o s at .answer ≡ OPTION → ⊥) → step o s (step o s at .next) .answer ≡ afterwards (step o s at .answer)
+    by true e none = simp (beyond rule o s at (ltb-true _ _ e) .1)
+    by false e none = inside (isFar o (length s)) refl (ltb-false _ _ e) none

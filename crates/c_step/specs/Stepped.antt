@@ -1,4 +1,5 @@
--- A step of the walk for C. On paper it is 0 End, 1 Stopped, 2 an option with kind, type, place and length, or a refusal.
+-- A step of the walk for C. On paper it is 0 End, 1 Stopped, 2 an option with kind, type, place in the options, length
+-- and place in the packet, or a refusal.
 -- Assumes nothing.
 use Prim.Native.Nat.{ℕ}
 use mathlib.Core.Bool.{cond}
@@ -13,7 +14,7 @@ use Rattle.c_step.specs.declared.Stepped.{Stepped}
 -- an answer without an option
 abbrev pub bare : ℕ → ℕ → List ℕ → ℕ → Stepped
 bare answer refusal value next =
-    record { answer = answer; refusal = refusal; value = value; kind = 0; «option_type» = 0; at = 0; length = 0; next = next }
+    record { answer = answer; refusal = refusal; value = value; kind = 0; «option_type» = 0; at = 0; length = 0; next = next; place = 0 }
 
 abbrev pub withOption : List ℕ → ℕ → Stepped
 withOption v next =
@@ -26,6 +27,7 @@ withOption v next =
       at = getD v 3 0;
       length = getD v 4 0;
       next = next;
+      place = getD v 5 0;
     }
 
 -- a step at a place; a walk that is over stays where it is

@@ -1,4 +1,4 @@
-// A step of the option walk. The caller passes to each step the `next` of the step before it.
+// A step of the option walk. The caller passes to each step the `next` of the step before it, and the same offset: where the options begin in the packet.
 ghost use mathlib.Core.Path.{_≡_};
 ghost use Rattle.ndp_options.specs.Walk.{stepOf};
 ghost use Rattle.ndp_options.specs.Told.{optionKindNumber};
@@ -12,12 +12,13 @@ use ndp_options::Step;
 pub struct Stepped {
     pub answer: u32,
     pub refusal: u32,
-    pub value: [u64; 4],
+    pub value: [u64; 5],
     pub kind: u32,
     pub option_type: u32,
     pub at: usize,
     pub length: usize,
     pub next: usize,
+    pub place: usize,
 }
 
 fn kind_number(kind: NdpOptionKind) -> u32
@@ -34,7 +35,7 @@ fn kind_number(kind: NdpOptionKind) -> u32
 }
 
 // An answer without an option.
-fn bare(answer: u32, refusal: u32, value: [u64; 4], next: usize) -> Stepped
+fn bare(answer: u32, refusal: u32, value: [u64; 5], next: usize) -> Stepped
     ensures { λ r. ⌜ r ≡ bare answer refusal value next ⌝ }
 {
     Stepped {
@@ -46,36 +47,38 @@ fn bare(answer: u32, refusal: u32, value: [u64; 4], next: usize) -> Stepped
         at: 0,
         length: 0,
         next,
+        place: 0,
     }
 }
 
 #[no_mangle]
-pub extern "C" fn brothladder_step(options: &[u8], at: usize) -> Stepped
-    ensures { λ r. ⌜ r ≡ steppedFor at (stepOf (now (options .entry)) at) ⌝ }
+pub extern "C" fn brothladder_step(options: &[u8], offset: usize, at: usize) -> Stepped
+    ensures { λ r. ⌜ r ≡ steppedFor at (stepOf offset (now (options .entry)) at) ⌝ }
 {
     let c = Cursor { at };
     // Each arm returns: an answer is then written straight to where it goes (docs/BENCHMARKS.md).
-    match c.step(options) {
+    match c.step(options, offset) {
         Step::Handed(option, next) => {
             let kind = option.kind;
             let id = option.option_type;
             return Stepped {
                 answer: c_answer::OPTION,
                 refusal: 0,
-                value: [0, 0, 0, 0],
+                value: [0, 0, 0, 0, 0],
                 kind: kind_number(kind),
                 option_type: id.0 as u32,
                 at: option.at,
                 length: option.len,
                 next: next.at,
+                place: option.place,
             };
         }
-        Step::End => return bare(c_answer::END, 0, [0, 0, 0, 0], at),
+        Step::End => return bare(c_answer::END, 0, [0, 0, 0, 0, 0], at),
         Step::Refused(why, next) => {
             let n = why.numbers();
             let value = n.values;
             return bare(c_answer::REFUSED, n.number as u32, value, next.at);
         }
-        Step::Stopped => return bare(c_answer::STOPPED, 0, [0, 0, 0, 0], at),
+        Step::Stopped => return bare(c_answer::STOPPED, 0, [0, 0, 0, 0, 0], at),
     }
 }

@@ -8,7 +8,7 @@ use checksum::Verdict;
 pub struct Verified {
     pub answer: u32,
     pub refusal: u32,
-    pub value: [u64; 4],
+    pub value: [u64; 5],
 }
 
 #[no_mangle]
@@ -24,12 +24,12 @@ pub extern "C" fn brothladder_verify(
         Verdict::Valid => return Verified {
             answer: c_answer::VALID,
             refusal: 0,
-            value: [0, 0, 0, 0],
+            value: [0, 0, 0, 0, 0],
         },
         Verdict::Invalid => return Verified {
             answer: c_answer::INVALID,
             refusal: 0,
-            value: [0, 0, 0, 0],
+            value: [0, 0, 0, 0, 0],
         },
         Verdict::Refused(why) => {
             let n = why.numbers();

@@ -9,7 +9,7 @@ use writer::write_packet;
 pub struct Written {
     pub answer: u32,
     pub refusal: u32,
-    pub value: [u64; 4],
+    pub value: [u64; 5],
     pub length: usize,
 }
 
@@ -32,7 +32,7 @@ pub extern "C" fn brothladder_write(
         output::Written::To(length) => return Written {
             answer: c_answer::WRITTEN,
             refusal: 0,
-            value: [0, 0, 0, 0],
+            value: [0, 0, 0, 0, 0],
             length,
         },
         output::Written::Refused(why) => {

@@ -8,12 +8,13 @@ use Rattle.checksum.specs.Icmpv6.{computedOf}
 use Rattle.icmpv6_payload_slice.specs.Dispatch.{payloadOf}
 use Rattle.ndp_walk.specs.Judge.{judge}
 use Rattle.ndp_walk.specs.Walk.{walkOn, walkFrom}
+use Rattle.ndp_option_list.specs.Whole.{wholeOf}
 use Rattle.output.proofs.Fitting.{fits}
 use Rattle.writer.specs.Write.{sendableOf}
 use Rattle.cases.specs.Limits.{table, Claim}
 
 pub hold : Each Claim table
-unfolding computedOf sendableOf payloadOf known fixedLen walkOn walkFrom judge
+unfolding computedOf sendableOf payloadOf known fixedLen walkOn walkFrom judge wholeOf
 hold = (
   λ source destination head payload n. rw n,
   (

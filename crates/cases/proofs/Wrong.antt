@@ -15,6 +15,7 @@ use Rattle.ndp_walk.specs.Judge.{judge}
 use Rattle.ndp_walk.specs.Walk.{Ending, Clean, RefusedAt, Walk, clean, walkOn, walkFrom}
 use Rattle.ndp_walk.specs.Step.{Told, stopped, stepBy}
 use Rattle.ndp_options.specs.Rule.{rule}
+use Rattle.packet_place.specs.Place.{placed}
 use Rattle.ndp_option_read.specs.Rule.{exactlyOf}
 use Rattle.prefix_information.specs.Prefix.{prefixOf, noInformation}
 use Rattle.prefix_information.specs.Prefix as prefix
@@ -27,9 +28,9 @@ use Rattle.cases.specs.Table.{Case, decodes, walks, steps, reads, rewrit
 abbrev pub wrong : List Case
 wrong =
     decodes (zeros 7) (refuses 1 (8 ∷ 8 ∷ []))
-    ∷ walks (1 ∷ 0 ∷ []) clean
-    ∷ steps [] 0 stopped
-    ∷ reads (3 ∷ 3 ∷ zeros 22) (refuses 5 (3 ∷ 32 ∷ 32 ∷ [])) noInformation
+    ∷ walks 0 (1 ∷ 0 ∷ []) clean
+    ∷ steps 0 [] 0 stopped
+    ∷ reads 0 (3 ∷ 3 ∷ zeros 22) (refuses 5 (3 ∷ 32 ∷ 32 ∷ 0 ∷ [])) noInformation
     ∷ rewrites (option 0xff) (option 0xff)
     ∷ validates router everyone (solicitation 0x7a 0x2c) invalid
     ∷ dispatches 135 (zeros 15) (refuses 4 (16 ∷ 16 ∷ []))
@@ -41,7 +42,7 @@ number Clean = 0
 number (RefusedAt at why) = why .number
 
 pub not-met : Each (λ (c : Case). Claim c → ⊥) wrong
-unfolding known fixedLen sized typeOf decodeOf judge walkOn walkFrom stepBy rule exactlyOf prefixOf _⊕_ sumOf verdictOf payloadOf
+unfolding known fixedLen sized typeOf decodeOf judge walkOn walkFrom stepBy rule exactlyOf placed prefixOf _⊕_ sumOf verdictOf payloadOf
 not-met = (
   λ e. let z : _≡_ {A = ℕ} 7 8 = ap (value 1) e in omega arith,
   (

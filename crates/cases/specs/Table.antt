@@ -9,7 +9,7 @@ use Rattle.paper.specs.Paper.{Paper, refuses, gives}
 use Rattle.icmpv6.specs.Head.{decodeOf}
 use Rattle.ndp_walk.specs.Walk.{Walk, clean, refused}
 use Rattle.ndp_walk.specs.Step.{Told, told, ended, stopped}
-use Rattle.ndp_options.specs.Walk.{walk, stepOf}
+use Rattle.ndp_options.specs.Walk.{walkFrom, stepOf}
 use Rattle.prefix_information.specs.declared.PrefixInformation.{PrefixInformation}
 use Rattle.prefix_information.specs.Prefix.{prefixOf, informationAt, bytesOf, noInformation}
 use Rattle.prefix_information.specs.Prefix as prefix
@@ -19,18 +19,19 @@ use Rattle.icmpv6_payload_slice.specs.Dispatch.{payloadOf}
 -- a call, what it is given, and what it answers
 pub data Case : Type 0 where
   decodes : List ℕ → Paper → Case
-  walks : List ℕ → Walk → Case
-  steps : List ℕ → ℕ → Told → Case
-  reads : List ℕ → Paper → PrefixInformation → Case
+  -- of option bytes, the first number is the offset at which they begin in the packet
+  walks : ℕ → List ℕ → Walk → Case
+  steps : ℕ → List ℕ → ℕ → Told → Case
+  reads : ℕ → List ℕ → Paper → PrefixInformation → Case
   rewrites : List ℕ → List ℕ → Case
   validates : List ℕ → List ℕ → List ℕ → Paper → Case
   dispatches : ℕ → List ℕ → Paper → Case
 
 abbrev pub Claim : Case → Type 0
 Claim (decodes packet answer) = decodeOf packet ≡ answer
-Claim (walks options answer) = walk options ≡ answer
-Claim (steps options at answer) = stepOf options at ≡ answer
-Claim (reads option answer information) = prefixOf option ≡ prefix.toldWith answer information
+Claim (walks offset options answer) = walkFrom offset options ≡ answer
+Claim (steps offset options at answer) = stepOf offset options at ≡ answer
+Claim (reads offset option answer information) = prefixOf offset option ≡ prefix.toldWith answer information
 Claim (rewrites option bytes) = bytesOf (informationAt option) ≡ bytes
 Claim (validates source destination packet answer) = verdictOf source destination packet ≡ answer
 Claim (dispatches kind payload answer) = payloadOf 0 kind (length payload) ≡ answer
@@ -78,21 +79,30 @@ table =
     -- P3 02 00 00 00 00 00 05 00: too big, MTU 1,280
     ∷ decodes (2 ∷ zeros 5 ++ (5 ∷ 0 ∷ [])) (gives (0 ∷ 2 ∷ 1280 ∷ []))
     -- P4 no options: End
-    ∷ walks [] clean
-    ∷ steps [] 0 ended
-    -- P5 01: 5 (1, 2, 1), then Stopped
-    ∷ steps (1 ∷ []) 0 (told (refuses 5 (1 ∷ 2 ∷ 1 ∷ [])) 2)
-    ∷ steps (1 ∷ []) 2 stopped
-    -- P6 01 00: 6 (1)
-    ∷ walks (1 ∷ 0 ∷ []) (refused 0 (refuses 6 (1 ∷ [])))
-    -- P7 01 02 and six 00: 7 (1, 16, 8)
-    ∷ walks (1 ∷ 2 ∷ zeros 6) (refused 0 (refuses 7 (1 ∷ 16 ∷ 8 ∷ [])))
-    -- P8 24 bytes from 03 03: 5 (3, 32, 24)
-    ∷ reads (3 ∷ 3 ∷ zeros 22) (refuses 5 (3 ∷ 32 ∷ 24 ∷ [])) noInformation
+    ∷ walks 0 [] clean
+    ∷ walks 8 [] clean
+    ∷ steps 0 [] 0 ended
+    ∷ steps 8 [] 0 ended
+    -- P5 01: 5 (1, 2, 1) and its place, then Stopped
+    ∷ steps 0 (1 ∷ []) 0 (told (refuses 5 (1 ∷ 2 ∷ 1 ∷ 0 ∷ [])) 2)
+    ∷ steps 8 (1 ∷ []) 0 (told (refuses 5 (1 ∷ 2 ∷ 1 ∷ 8 ∷ [])) 2)
+    ∷ steps 0 (1 ∷ []) 2 stopped
+    ∷ steps 8 (1 ∷ []) 2 stopped
+    -- P6 01 00: 6 (1) and its place
+    ∷ walks 0 (1 ∷ 0 ∷ []) (refused 0 (refuses 6 (1 ∷ [])))
+    ∷ steps 0 (1 ∷ 0 ∷ []) 0 (told (refuses 6 (1 ∷ 0 ∷ [])) 3)
+    ∷ steps 8 (1 ∷ 0 ∷ []) 0 (told (refuses 6 (1 ∷ 8 ∷ [])) 3)
+    -- P7 01 02 and six 00: 7 (1, 16, 8) and its place
+    ∷ walks 8 (1 ∷ 2 ∷ zeros 6) (refused 8 (refuses 7 (1 ∷ 16 ∷ 8 ∷ [])))
+    ∷ steps 0 (1 ∷ 2 ∷ zeros 6) 0 (told (refuses 7 (1 ∷ 16 ∷ 8 ∷ 0 ∷ [])) 9)
+    ∷ steps 8 (1 ∷ 2 ∷ zeros 6) 0 (told (refuses 7 (1 ∷ 16 ∷ 8 ∷ 8 ∷ [])) 9)
+    -- P8 24 bytes from 03 03: 5 (3, 32, 24) and their place
+    ∷ reads 0 (3 ∷ 3 ∷ zeros 22) (refuses 5 (3 ∷ 32 ∷ 24 ∷ 0 ∷ [])) noInformation
+    ∷ reads 8 (3 ∷ 3 ∷ zeros 22) (refuses 5 (3 ∷ 32 ∷ 24 ∷ 8 ∷ [])) noInformation
     -- P9: 64, both flags, 86,400, 14,400
-    ∷ reads (option 0xc0) (gives []) information
+    ∷ reads 0 (option 0xc0) (gives (0 ∷ [])) information
     -- P10 flags ff: same value, written c0
-    ∷ reads (option 0xff) (gives []) information
+    ∷ reads 0 (option 0xff) (gives (0 ∷ [])) information
     ∷ rewrites (option 0xff) (option 0xc0)
     -- P11 the first dump packet validates
     ∷ validates router everyone (solicitation 0x7a 0x2c) valid

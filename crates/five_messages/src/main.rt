@@ -63,17 +63,17 @@ fn say(text: &[u8]) {
     io::write_all(STDOUT_FILENO, text);
 }
 
-// Whether an option that was handed out is one of its own type, whatever that is.
-fn is_option(option: &[u8]) -> bool {
-    match unknown_option::from_slice(option) {
-        NdpOptionRead::Accepted => true,
+// Whether an option that was handed out is one of its own type, whatever that is, at the place that was told with it.
+fn is_option(option: &[u8], place: usize) -> bool {
+    match unknown_option::from_slice(option, place) {
+        NdpOptionRead::Accepted(read_at) => read_at == place,
         NdpOptionRead::Refused(_) => false,
     }
 }
 
 // Whether an option is the sender's or the target's link-layer address.
-fn is_link_layer(option: &[u8]) -> bool {
-    if !is_option(option) {
+fn is_link_layer(option: &[u8], place: usize) -> bool {
+    if !is_option(option, place) {
         return false;
     }
     let source = LinkLayerAddressOption::Source;
@@ -85,26 +85,39 @@ fn is_link_layer(option: &[u8]) -> bool {
 }
 
 // The bytes from a place on, as a walker there hands them out.
-fn walker_rest<'a>(options: &'a [u8], at: usize) -> &'a [u8]
+fn walker_rest<'a>(options: &'a [u8], offset: usize, at: usize) -> &'a [u8]
     ensures { λ r. ⌜ now r ≡ drop at (now (options .entry)) ⌝ }
 {
-    ndp_walker::rest(Walker { options, at })
+    ndp_walker::rest(Walker {
+        options,
+        offset,
+        at,
+    })
 }
 
 // Whether a walker at the cursor's place has the bytes that the cursor has.
-fn walks_on(options: &[u8], next: Cursor) -> bool {
-    check::same(walker_rest(options, next.at), next.rest(options))
+fn walks_on(options: &[u8], offset: usize, next: Cursor) -> bool {
+    check::same(walker_rest(options, offset, next.at), next.rest(options))
 }
 
-// Whether a receiver is handed an option of the packet, and finds the link-layer address in the first.
+// Whether the packet has, at the place that is told with an option, the option's bytes.
+fn is_placed(packet: &[u8], option: &[u8], place: usize) -> bool {
+    let there = Cursor { at: place };
+    wire::begins_with(there.rest(packet), option)
+}
+
+// Whether a receiver is handed an option of the packet, told with its place there, and finds the link-layer address in the first.
 fn has_options(packet: &[u8], message: Icmpv6PayloadSlice) -> bool {
-    let start = Cursor {
-        at: message.options_at,
-    };
+    let offset = message.options_at;
+    let start = Cursor { at: offset };
     let options = start.rest(packet);
-    match ndp_walker::first_step(options) {
+    match ndp_walker::first_step(options, offset) {
         Step::Handed(option, next) => {
-            walks_on(options, next) && is_link_layer(option.bytes(options))
+            let place = option.place;
+            let bytes = option.bytes(options);
+            walks_on(options, offset, next)
+                && is_placed(packet, bytes, place)
+                && is_link_layer(bytes, place)
         }
         Step::End => false,
         Step::Refused(_, _) => false,

@@ -25,7 +25,7 @@ use Rattle.dump_lines.specs.declared.Line.the-variants.{Head}
 use Rattle.dump_lines.specs.Line.{text}
 use Rattle.icmpv6_payload_slice.proofs.Laws.{whole, other-pair}
 use Rattle.icmpv6_payload_slice.proofs.Opened.{opened, short-refused}
-use Rattle.ndp_options.specs.Walk.{walk}
+use Rattle.ndp_options.specs.Walk.{walkFrom}
 use Rattle.ndp_walk.specs.Walk.{Item, Walk, then, clean, refused}
 use Rattle.dump_lines.specs.Text.{optLine, endLine, refusedAtLine, refusedLine}
 use Rattle.listing.specs.Packet.{headText, itemsText, endingText, walkText, optionsText, packetText}
@@ -86,7 +86,7 @@ module _ (hop : ℕ) (source destination p : List ℕ) (x : PayloadRead) (e : pa
 
   pub shown : {m : Icmpv6PayloadSlice} → x ≡ Payload m →
       packetText hop source destination p
-      ≡ headText hop source destination p ++ cond (isNdp (payloadKindNumber (m .kind))) (walkText 0 (walk (drop (m .«options_at») p))) []
+      ≡ headText hop source destination p ++ cond (isNdp (payloadKindNumber (m .kind))) (walkText 0 (walkFrom (m .«options_at») (drop (m .«options_at») p))) []
   unfolding packetText optionsText
   shown {m} arm =
       let b = has-head arm in

@@ -10,10 +10,10 @@ use Rattle.paper.specs.Paper.{Paper}
 use Rattle.wire.specs.Wire.{word16At}
 use Rattle.packet_length.specs.Length.{fits}
 use Rattle.message_table.specs.Table.{isNdp}
-use Rattle.icmpv6_payload_slice.specs.Dispatch.{kindAt, byBytes}
+use Rattle.icmpv6_payload_slice.specs.Dispatch.{optionsAt, kindAt, byBytes}
 use Rattle.receive.specs.Receive.{packetOptions, isSound, reasonOf}
 use Rattle.ndp_walk.specs.Walk.{Item, Ending, Clean, RefusedAt, Walk}
-use Rattle.ndp_options.specs.Walk.{walk}
+use Rattle.ndp_options.specs.Walk.{walkFrom}
 use Rattle.output.specs.Output.{roomFor, leaves}
 use Rattle.capture.specs.Record.{recorded}
 use Rattle.dump_lines.specs.Line.{wordFor, okWord}
@@ -38,11 +38,11 @@ endingText n (RefusedAt at why) = refusedAtLine (why .number) at
 abbrev pub walkText : ℕ → Walk → List ℕ
 walkText n w = itemsText (w .items) ++ endingText (n + length (w .items)) (w .ending)
 
--- option lines only for rs to redirect, the messages of Neighbor Discovery; `refused 4` where the fixed part is not all there
+-- option lines only for rs to redirect, the messages of Neighbor Discovery, each at its place in the packet; `refused 4` where the fixed part is not all there
 unfoldable pub optionsText : List ℕ → List ℕ
 optionsText p =
     cond (eqb (byBytes p .number) 4) (refusedLine 4)
-    (cond (isNdp (kindAt p)) (walkText 0 (walk (packetOptions p))) [])
+    (cond (isNdp (kindAt p)) (walkText 0 (walkFrom (optionsAt 8 (kindAt p) (length p)) (packetOptions p))) [])
 
 -- a packet whose length is refused prints its refusal only
 unfoldable pub packetText : ℕ → List ℕ → List ℕ → List ℕ → List ℕ

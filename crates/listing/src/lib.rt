@@ -6,7 +6,7 @@ ghost use mathlib.Core.List.{[]};
 ghost use lib.ListN.{length, getD, drop};
 ghost use Rattle.wire.specs.Wire.{word16At};
 ghost use Rattle.output.specs.Output.{writtenTold, Wrote};
-ghost use Rattle.ndp_options.specs.Walk.{walk};
+ghost use Rattle.ndp_options.specs.Walk.{walkFrom};
 ghost use Rattle.dump_lines.specs.Line.{text};
 ghost use Rattle.message_table.specs.Table.{isNdp};
 ghost use Rattle.listing.specs.Packet.{walkText, packetText, recordText, Puts, putLeaves};
@@ -136,19 +136,19 @@ fn put_head(out: &mut [u8], at: usize, kind: u8, packet: &[u8], ok: bool, reason
 // The option lines of rs to redirect, the messages of Neighbor Discovery, from their place on.
 fn put_options(out: &mut [u8], at: usize, kind: u8, packet: &[u8], from: usize) -> usize
     requires { ⌜ (at + 32768 ≤ length (now out)) × (8 ≤ from) × (from ≤ length (now packet)) × (length (now packet) ≤ 2048) ⌝ }
-    ensures wrote { λ r. ⌜ Wrote (now (out .entry)) at (cond (isNdp kind) (walkText 0 (walk (drop from (now (packet .entry))))) []) (now (out .exit)) r ⌝ }
+    ensures wrote { λ r. ⌜ Wrote (now (out .entry)) at (cond (isNdp kind) (walkText 0 (walkFrom from (drop from (now (packet .entry))))) []) (now (out .exit)) r ⌝ }
     ensures short { λ r. ⌜ r ≤ at + 32768 ⌝ }
 {
     if message_table::is_ndp(kind) {
-        return put_walk(out, at, &packet[from..]);
+        return put_walk(out, at, &packet[from..], from);
     }
     at
 }
 
-// A line for each option, and the ending of the walk.
-fn put_walk(out: &mut [u8], at: usize, options: &[u8]) -> usize
-    requires { ⌜ (at + 128 + 16 * length (now options) ≤ length (now out)) × (length (now options) ≤ 2040) ⌝ }
-    ensures wrote { λ r. ⌜ Wrote (now (out .entry)) at (walkText 0 (walk (now (options .entry)))) (now (out .exit)) r ⌝ }
+// A line for each option, and the ending of the walk. The first byte of the options is at an offset of the packet.
+fn put_walk(out: &mut [u8], at: usize, options: &[u8], offset: usize) -> usize
+    requires { ⌜ (at + 128 + 16 * length (now options) ≤ length (now out)) × (offset + length (now options) ≤ 2048) ⌝ }
+    ensures wrote { λ r. ⌜ Wrote (now (out .entry)) at (walkText 0 (walkFrom offset (now (options .entry)))) (now (out .exit)) r ⌝ }
     ensures short { λ r. ⌜ r ≤ at + 128 + 16 * length (now (options .entry)) ⌝ }
 {
     let mut c = Cursor::new();
@@ -156,11 +156,11 @@ fn put_walk(out: &mut [u8], at: usize, options: &[u8]) -> usize
     let mut put = at;
     loop {
         let here = c.at;
-        match c.step(options) {
+        match c.step(options, offset) {
             Step::Handed(option, next) => {
                 let id = option.option_type;
                 let line = Line::Opt {
-                    place: here as u64,
+                    place: option.place as u64,
                     kind: id.0,
                     bytes: option.len as u64,
                 };
@@ -172,7 +172,7 @@ fn put_walk(out: &mut [u8], at: usize, options: &[u8]) -> usize
             Step::Refused(why, _) => {
                 let line = Line::RefusedAt {
                     number: why.number(),
-                    place: here as u64,
+                    place: (offset + here) as u64,
                 };
                 return put_line(out, put, line);
             }

@@ -12,10 +12,10 @@ use Rattle.ndp_option.specs.declared.mtu_option.MtuOption.{MtuOption}
 use Rattle.ndp_option.specs.declared.mtu_option.MtuOption.the-variants.{Mtu, Refused}
 
 abbrev mtuBack : Paper → MtuOption
-mtuBack p = cond (eqb (p .number) 0) (Mtu (getD (p .values) 0 0)) (Refused (refusalOf p))
+mtuBack p = cond (eqb (p .number) 0) (Mtu (getD (p .values) 0 0) (getD (p .values) 1 0)) (Refused (refusalOf p))
 
 mtu-back : (r : MtuOption) → mtuBack (mtuTold r) ≡ r
-mtu-back (Mtu mtu) = refl
+mtu-back (Mtu mtu place) = refl
 mtu-back (Refused why) = simp (refusal-numbered why, refusal-back why)
 
 pub mtu-lossless : (x y : MtuOption) → mtuTold x ≡ mtuTold y → x ≡ y

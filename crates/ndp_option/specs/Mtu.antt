@@ -10,7 +10,7 @@ use Rattle.ndp_option.specs.declared.mtu_option.MtuOption.the-variants.{
 use Rattle.ndp_option_read.specs.Rule.{exactlyOf, ifRead}
 
 abbrev pub mtuTold : MtuOption → Paper
-mtuTold (Mtu mtu) = gives (mtu ∷ [])
+mtuTold (Mtu mtu place) = gives (mtu ∷ place ∷ [])
 mtuTold (Refused why) = refusal why
 
 unfoldable pub mtuOf : List ℕ → Paper

@@ -13,7 +13,7 @@ fn part(read: NdpOptionRead, slice: &[u8], from: usize) -> &[u8]
     ensures { λ r. ⌜ now r ≡ partFrom from (readTold read) (now (slice .entry)) ⌝ }
 {
     match read {
-        NdpOptionRead::Accepted => {
+        NdpOptionRead::Accepted(_) => {
             if from <= slice.len() {
                 &slice[from..]
             } else {

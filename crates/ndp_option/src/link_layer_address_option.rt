@@ -1,6 +1,7 @@
 // The source and the target link-layer address option (RFC 4861, section 4.6.1): 1 or 2, units, the address.
 // For source_ and target_link_layer_address_option_slice.rs, by the tests of the redirected header (docs/DECISIONS.md).
 ghost use mathlib.Core.Path.{_≡_};
+ghost use Rattle.packet_place.specs.Place.{placed};
 ghost use Rattle.ndp_option_read.specs.Rule.{readTold, sizedOf, partFrom};
 ghost use Rattle.ndp_option.specs.LinkLayer.{linkLayerType};
 use ndp_option_read::NdpOptionRead;
@@ -22,16 +23,16 @@ impl LinkLayerAddressOption {
         }
     }
 
-    pub fn from_slice(self, slice: &[u8]) -> NdpOptionRead
-        ensures { λ r. ⌜ readTold r ≡ sizedOf (linkLayerType self) (now (slice .entry)) ⌝ }
+    pub fn from_slice(self, slice: &[u8], offset: usize) -> NdpOptionRead
+        ensures { λ r. ⌜ readTold r ≡ placed offset (now (slice .entry)) (sizedOf (linkLayerType self) (now (slice .entry))) ⌝ }
     {
-        ndp_option_read::sized(self.option_type(), slice)
+        ndp_option_read::sized(self.option_type(), slice, offset)
     }
 
     // The address with any padding behind it; no bytes if the option is refused.
     pub fn link_layer_address(self, slice: &[u8]) -> &[u8]
         ensures { λ r. ⌜ now r ≡ partFrom 2 (sizedOf (linkLayerType self) (now (slice .entry))) (now (slice .entry)) ⌝ }
     {
-        crate::part(self.from_slice(slice), slice, 2)
+        crate::part(self.from_slice(slice, 0), slice, 2)
     }
 }

@@ -30,10 +30,10 @@ pub header-lossless : (x y : NdpOptionHeader) → headerBytes x ≡ headerBytes 
 header-lossless = lossless headerBytes headerBack (λ h. refl)
 
 abbrev readBack : Paper → HeaderRead
-readBack p = cond (eqb (p .number) 0) (Header (headerBack (p .values))) (Refused (refusalOf p))
+readBack p = cond (eqb (p .number) 0) (Header (headerBack (p .values)) (getD (p .values) 2 0)) (Refused (refusalOf p))
 
 read-back : (r : HeaderRead) → readBack (optionHeaderTold r) ≡ r
-read-back (Header h) = refl
+read-back (Header h place) = refl
 read-back (Refused why) = simp (refusal-numbered why, refusal-back why)
 
 pub read-lossless : (x y : HeaderRead) → optionHeaderTold x ≡ optionHeaderTold y → x ≡ y

@@ -19,9 +19,9 @@ unitBytes units = 8 * units
 abbrev pub headerBytes : NdpOptionHeader → List ℕ
 headerBytes h = h .«option_type» .0 ∷ h .«length_units» .0 ∷ []
 
--- of a header its type and units
+-- of a header its type, its units and its place
 abbrev pub optionHeaderTold : HeaderRead → Paper
-optionHeaderTold (Header h) = gives (headerBytes h)
+optionHeaderTold (Header h place) = gives (h .«option_type» .0 ∷ h .«length_units» .0 ∷ place ∷ [])
 optionHeaderTold (Refused why) = refusal why
 
 -- under two bytes: refusal 5 (first byte or 0, 2, length); else the first two

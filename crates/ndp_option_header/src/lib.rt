@@ -2,6 +2,7 @@
 // Port of ndp_option/ndp_option_header.rs.
 ghost use mathlib.Core.Path.{_≡_};
 ghost use lib.ListN.{drop};
+ghost use Rattle.packet_place.specs.Place.{placed};
 ghost use Rattle.ndp_option_header.specs.Header.{unitBytes, headerBytes, optionHeaderTold, headerOf};
 use refusal::LengthUnits;
 use refusal::NdpOptionType;
@@ -14,9 +15,9 @@ pub struct NdpOptionHeader {
     pub length_units: LengthUnits,
 }
 
-// What a slice begins with.
+// What a slice begins with, and its place in the packet.
 pub enum HeaderRead {
-    Header(NdpOptionHeader),
+    Header(NdpOptionHeader, usize),
     Refused(Refusal),
 }
 
@@ -36,20 +37,25 @@ impl NdpOptionHeader {
         [self.option_type.0, self.length_units.0]
     }
 
-    // The header at the start of a slice.
-    pub fn from_slice(slice: &[u8]) -> HeaderRead
-        ensures { λ r. ⌜ optionHeaderTold r ≡ headerOf (now (slice .entry)) ⌝ }
+    // The header at the start of a slice, whose first byte is at an offset of the packet.
+    pub fn from_slice(slice: &[u8], offset: usize) -> HeaderRead
+        ensures { λ r. ⌜ optionHeaderTold r ≡ placed offset (now (slice .entry)) (headerOf (now (slice .entry))) ⌝ }
     {
         let length = slice.len();
+        if packet_place::is_far(offset, length) {
+            return HeaderRead::Refused(Refusal::FarOffset);
+        }
         if length < NDP_OPTION_HEADER_LEN {
             let id = if length == 0 { 0 } else { slice[0] };
             return HeaderRead::Refused(Refusal::UnexpectedSize {
                 id: NdpOptionType(id),
                 expected: NDP_OPTION_HEADER_LEN,
                 actual: length,
+                place: offset,
             });
         }
-        HeaderRead::Header(NdpOptionHeader::from_bytes([slice[0], slice[1]]))
+        let header = NdpOptionHeader::from_bytes([slice[0], slice[1]]);
+        HeaderRead::Header(header, offset)
     }
 
     // The bytes of the whole option. Nothing else turns units into bytes.

@@ -1,33 +1,72 @@
 -- What the answers of the calls that run the whole walk say of it: a refusal's number is not 0, so an answer and a refusal are never told alike.
 -- Assumes nothing.
-use Prim.Native.Nat.{ℕ, _<_}
-use mathlib.Core.Path.{_≡_, refl, sym, ap}
+use Prim.Native.Nat.{ℕ, _+_, _≤_, _<_}
+use mathlib.Core.Path.{_≡_, refl, sym, _∙_, ap}
+use mathlib.Core.Bool.{Bool, true, false, cond}
 use mathlib.Core.List.{List}
 use native.Mathlib.Omega.{arith}
-use lib.ListN.{drop}
+use lib.Dec.{lit≤}
+use lib.ListN.{length, drop}
 use Rattle.paper.specs.Paper.{Paper, gives}
-use Rattle.ndp_walk.specs.Walk.{Ending, Clean, RefusedAt}
-use Rattle.ndp_walk.specs.Step.{Told, told}
+use Rattle.packet_length.specs.Length.{limit}
+use Rattle.packet_place.specs.Place.{isFar, far}
+use Rattle.packet_place.proofs.Laws.{is-near, near}
+use Rattle.ndp_walk.specs.Walk.{Item, Ending, Clean, RefusedAt, shiftEnding}
+use Rattle.ndp_walk.specs.Placed.{endBy}
 use Rattle.ndp_walk.proofs.Judging.{refusal-numbered}
 use Rattle.ndp_walk.proofs.Laws.{refused-there}
+use Rattle.ndp_walk.proofs.Placed.{ending-from}
 use Rattle.ndp_options.specs.Rule.{rule}
-use Rattle.ndp_options.specs.Walk.{walk}
-use Rattle.ndp_option_list.specs.Whole.{endBy}
+use Rattle.ndp_options.specs.Walk.{walk, walkFrom}
+use Rattle.ndp_option_list.specs.Whole.{wholeOf}
 use Rattle.ndp_options.proofs.Rule.{numbered}
+use Rattle.ndp_options.proofs.Reasons.{five-to-seven}
 
-module _ (s : List ℕ) where
-  -- an answer is that of a clean walk
-  pub answered : (v w : List ℕ) → told (gives v) 0 ≡ endBy (walk s .ending) (gives w) → (walk s .ending ≡ Clean) × (v ≡ w)
-  answered v w q = go (walk s .ending) refl q
+module _ (o : ℕ) (s : List ℕ) where
+  -- the refusal of a walk has a number
+  walk-refused : {place : ℕ} {why : Paper} → walkFrom o s .ending ≡ RefusedAt place why → 0 < why .number
+  walk-refused {place} {why} e = go (walk s .ending) refl (sym (ending-from rule o s) ∙ e)
     where
-      go : (e : Ending) → walk s .ending ≡ e → told (gives v) 0 ≡ endBy e (gives w) → (e ≡ Clean) × (v ≡ w)
-      go Clean e q = (refl, ap (λ (t : Told). t .paper .values) q)
-      go (RefusedAt at why) e q = absurd (let n = refusal-numbered rule numbered (drop at s) (refused-there rule s e .0) in let z = ap (λ (t : Told). t .paper .number) q in omega arith)
+      go : (w : Ending) → walk s .ending ≡ w → shiftEnding o w ≡ RefusedAt place why → 0 < why .number
+      go Clean f q = absurd (let z : _≡_ {A = ℕ} 0 1 = cc in omega arith)
+      go (RefusedAt at p) f q = let same : p ≡ why = cc in rw (← same) (refusal-numbered rule numbered (drop at s) (refused-there rule s f .0))
 
-  -- a refusal is that of the walk, at its place
-  pub refused-whole : {why : Paper} {at : ℕ} (w : List ℕ) → 0 < why .number → told why at ≡ endBy (walk s .ending) (gives w) → walk s .ending ≡ RefusedAt at why
-  refused-whole {why} {at} w n q = go (walk s .ending) q
+  -- an answer is that of a clean walk over bytes that are not too far on
+  pub answered : (v : List ℕ) (about : List Item → List ℕ) → gives v ≡ wholeOf o s about → (o + length s ≤ limit) × (walkFrom o s .ending ≡ Clean) × (v ≡ about (walkFrom o s .items))
+  unfolding wholeOf
+  answered v about q = by (isFar o (length s)) refl q
     where
-      go : (e : Ending) → told why at ≡ endBy e (gives w) → e ≡ RefusedAt at why
-      go Clean q = absurd (let z = ap (λ (t : Told). t .paper .number) q in omega arith)
-      go (RefusedAt to p) q = sym (ap (λ (t : Told). RefusedAt (t .place) (t .paper)) q)
+      go : (e : Ending) → walkFrom o s .ending ≡ e → gives v ≡ endBy e (gives (about (walkFrom o s .items))) → (e ≡ Clean) × (v ≡ about (walkFrom o s .items))
+      go Clean e q = (refl, ap (λ (p : Paper). p .values) q)
+      go (RefusedAt place why) e q = absurd (let n = walk-refused e in let z = ap (λ (p : Paper). p .number) q in omega arith)
+
+      by : (b : Bool) → isFar o (length s) ≡ b → gives v ≡ cond b far (endBy (walkFrom o s .ending) (gives (about (walkFrom o s .items)))) → (o + length s ≤ limit) × (walkFrom o s .ending ≡ Clean) × (v ≡ about (walkFrom o s .items))
+      by true f q = absurd (let z = ap (λ (p : Paper). p .number) q in omega arith)
+      by false f q = let r = go (walkFrom o s .ending) refl q in (is-near o (length s) f, r .0, r .1)
+
+  -- what is refused does not hang on what was asked about the options
+  pub refused-whole : {why : Paper} (about other : List Item → List ℕ) → 0 < why .number → why ≡ wholeOf o s about → why ≡ wholeOf o s other
+  unfolding wholeOf
+  refused-whole {why} about other n q = by (isFar o (length s)) q
+    where
+      go : (e : Ending) → why ≡ endBy e (gives (about (walkFrom o s .items))) → why ≡ endBy e (gives (other (walkFrom o s .items)))
+      go Clean q = absurd (let z = ap (λ (p : Paper). p .number) q in omega arith)
+      go (RefusedAt place p) q = q
+
+      by : (b : Bool) → why ≡ cond b far (endBy (walkFrom o s .ending) (gives (about (walkFrom o s .items)))) → why ≡ cond b far (endBy (walkFrom o s .ending) (gives (other (walkFrom o s .items))))
+      by true q = q
+      by false q = go (walkFrom o s .ending) q
+
+  -- what a clean walk over bytes that are not too far on comes to
+  pub whole : (about : List Item → List ℕ) → o + length s ≤ limit → walkFrom o s .ending ≡ Clean → wholeOf o s about ≡ gives (about (walkFrom o s .items))
+  unfolding wholeOf
+  whole about h e = rw (near o (length s) h, e)
+
+  -- of bytes that are not too far on, no refusal is 22: the walk's are 5 to 7
+  pub never-far : (about : List Item → List ℕ) → o + length s ≤ limit → wholeOf o s about .number ≤ 7
+  unfolding wholeOf
+  never-far about h = rw (near o (length s) h, ending-from rule o s) (go (walk s .ending) refl)
+    where
+      go : (e : Ending) → walk s .ending ≡ e → endBy (shiftEnding o e) (gives (about (walkFrom o s .items))) .number ≤ 7
+      go Clean e = lit≤ tt
+      go (RefusedAt at why) e = five-to-seven s e .1

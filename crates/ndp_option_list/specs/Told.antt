@@ -1,9 +1,8 @@
 -- The number and values of each case of the answers.
 -- Assumes nothing.
 use mathlib.Core.List.{[], _∷_}
-use Rattle.paper.specs.Paper.{gives, oneIf}
+use Rattle.paper.specs.Paper.{Paper, gives, oneIf}
 use Rattle.refusal.specs.Paper.{refusal}
-use Rattle.ndp_walk.specs.Step.{Told, told}
 use Rattle.ndp_option_list.specs.declared.Counted.{Counted}
 use Rattle.ndp_option_list.specs.declared.Counted.the-variants.{All, Refused}
 use Rattle.ndp_option_list.specs.declared.Occurs.{Occurs}
@@ -11,17 +10,17 @@ use Rattle.ndp_option_list.specs.declared.Occurs.the-variants.{Yes, No, 
 use Rattle.ndp_option_list.specs.declared.Tally.{Tally}
 use Rattle.ndp_option_list.specs.declared.Tally.the-variants.{All as TallyAll, Refused as TallyRefused}
 
--- the number of options, or the refusal and its place
-abbrev pub countTold : Counted → Told
-countTold (All n) = told (gives (n ∷ [])) 0
-countTold (Refused why at) = told (refusal why) at
+-- the number of options, or the refusal
+abbrev pub countTold : Counted → Paper
+countTold (All n) = gives (n ∷ [])
+countTold (Refused why) = refusal why
 
--- 1 or 0, or the refusal and its place
-abbrev pub occursTold : Occurs → Told
-occursTold Yes = told (gives (1 ∷ [])) 0
-occursTold No = told (gives (0 ∷ [])) 0
-occursTold (OccursRefused why at) = told (refusal why) at
+-- 1 or 0, or the refusal
+abbrev pub occursTold : Occurs → Paper
+occursTold Yes = gives (1 ∷ [])
+occursTold No = gives (0 ∷ [])
+occursTold (OccursRefused why) = refusal why
 
-abbrev pub tallyTold : Tally → Told
-tallyTold (TallyAll n found) = told (gives (n ∷ oneIf found ∷ [])) 0
-tallyTold (TallyRefused why at) = told (refusal why) at
+abbrev pub tallyTold : Tally → Paper
+tallyTold (TallyAll n found) = gives (n ∷ oneIf found ∷ [])
+tallyTold (TallyRefused why) = refusal why

@@ -1,4 +1,4 @@
--- What the walk over a whole list comes to.
+-- What the walk over a whole list at an offset comes to.
 -- Assumes nothing.
 use Prim.Native.Nat.{ℕ}
 use mathlib.Core.Bool.{Bool, true, false, cond}
@@ -6,27 +6,29 @@ use mathlib.Core.List.{List, [], _∷_}
 use lib.Dec.{eqb}
 use lib.ListN.{length}
 use Rattle.paper.specs.Paper.{Paper, gives, oneIf}
-use Rattle.ndp_walk.specs.Walk.{Item, Ending, Clean, RefusedAt}
-use Rattle.ndp_walk.specs.Step.{Told, told}
-use Rattle.ndp_options.specs.Walk.{walk}
+use Rattle.packet_place.specs.Place.{isFar, far}
+use Rattle.ndp_walk.specs.Walk.{Item}
+use Rattle.ndp_walk.specs.Placed.{endBy}
+use Rattle.ndp_options.specs.Walk.{walkFrom}
 
--- of a clean walk an answer, of a refused one the refusal and its place
-abbrev pub endBy : Ending → Paper → Told
-endBy Clean p = told p 0
-endBy (RefusedAt at why) p = told why at
+-- bytes too far on: 22; a refused walk: its refusal with its place; a clean walk: an answer about its options
+unfoldable pub wholeOf : ℕ → List ℕ → (List Item → List ℕ) → Paper
+wholeOf offset s about =
+    cond (isFar offset (length s)) far
+    (endBy (walkFrom offset s .ending) (gives (about (walkFrom offset s .items))))
 
 -- how many options
-abbrev pub countOf : List ℕ → Told
-countOf s = endBy (walk s .ending) (gives (length (walk s .items) ∷ []))
+abbrev pub countOf : ℕ → List ℕ → Paper
+countOf offset s = wholeOf offset s (λ is. length is ∷ [])
 
 -- whether an option of the type is among them
 unfoldable pub occurs : ℕ → List Item → Bool
 occurs type [] = false
 occurs type (i ∷ is) = cond (eqb (i .type) type) true (occurs type is)
 
-abbrev pub occursOf : ℕ → List ℕ → Told
-occursOf type s = endBy (walk s .ending) (gives (oneIf (occurs type (walk s .items)) ∷ []))
+abbrev pub occursOf : ℕ → ℕ → List ℕ → Paper
+occursOf type offset s = wholeOf offset s (λ is. oneIf (occurs type is) ∷ [])
 
 -- both
-abbrev pub tallyOf : ℕ → List ℕ → Told
-tallyOf type s = endBy (walk s .ending) (gives (length (walk s .items) ∷ oneIf (occurs type (walk s .items)) ∷ []))
+abbrev pub tallyOf : ℕ → ℕ → List ℕ → Paper
+tallyOf type offset s = wholeOf offset s (λ is. length is ∷ oneIf (occurs type is) ∷ [])

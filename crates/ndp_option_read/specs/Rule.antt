@@ -11,9 +11,9 @@ use Rattle.ndp_option_header.specs.Header.{unitBytes}
 use Rattle.ndp_option_read.specs.declared.NdpOptionRead.{NdpOptionRead}
 use Rattle.ndp_option_read.specs.declared.NdpOptionRead.the-variants.{Accepted, Refused}
 
--- an option that is accepted has no values here: what it says is read beside
+-- of an option that is accepted its place: what it says is read beside
 abbrev pub readTold : NdpOptionRead → Paper
-readTold Accepted = gives []
+readTold (Accepted place) = gives (place ∷ [])
 readTold (Refused why) = refusal why
 
 abbrev differ : ℕ → ℕ → Bool

@@ -3,6 +3,7 @@
 ghost use mathlib.Core.Path.{_≡_};
 ghost use mathlib.Core.List.{[], _∷_};
 ghost use lib.ListN.{getD};
+ghost use Rattle.packet_place.specs.Place.{withPlace, placed};
 ghost use Rattle.ndp_option_header.specs.Header.{headerBytes};
 ghost use Rattle.ndp_option_read.specs.Rule.{readTold, exactlyOf, sizedOf};
 use ndp_option_header::NdpOptionHeader;
@@ -10,15 +11,24 @@ use refusal::LengthUnits;
 use refusal::NdpOptionType;
 use refusal::Refusal;
 
-// Whether an option passes its rule. Its contents are read by another call, or stand beside the answer.
+// Whether an option passes its rule, with its place in the packet. Its contents are read by another call, or stand beside the answer.
 pub enum NdpOptionRead {
-    Accepted,
+    Accepted(usize),
     Refused(Refusal),
 }
 
-// An option of a fixed size (docs/RULES.md O1): its number of bytes, then its header.
-pub fn exactly(id: NdpOptionType, units: LengthUnits, slice: &[u8]) -> NdpOptionRead
-    ensures { λ r. ⌜ readTold r ≡ exactlyOf (id .0) (units .0) (now (slice .entry)) ⌝ }
+// An option of a fixed size (docs/RULES.md O1), whose first byte is at an offset of the packet: its number of bytes, then its header.
+pub fn exactly(id: NdpOptionType, units: LengthUnits, slice: &[u8], offset: usize) -> NdpOptionRead
+    ensures { λ r. ⌜ readTold r ≡ placed offset (now (slice .entry)) (exactlyOf (id .0) (units .0) (now (slice .entry))) ⌝ }
+{
+    if packet_place::is_far(offset, slice.len()) {
+        return NdpOptionRead::Refused(Refusal::FarOffset);
+    }
+    exactly_at(id, units, slice, offset)
+}
+
+fn exactly_at(id: NdpOptionType, units: LengthUnits, slice: &[u8], place: usize) -> NdpOptionRead
+    ensures { λ r. ⌜ readTold r ≡ withPlace place (exactlyOf (id .0) (units .0) (now (slice .entry))) ⌝ }
 {
     let expected = NdpOptionHeader {
         option_type: id,
@@ -31,6 +41,7 @@ pub fn exactly(id: NdpOptionType, units: LengthUnits, slice: &[u8]) -> NdpOption
             id: id,
             expected: wanted,
             actual: length,
+            place: place,
         });
     }
     let header = header_at(slice);
@@ -42,15 +53,25 @@ pub fn exactly(id: NdpOptionType, units: LengthUnits, slice: &[u8]) -> NdpOption
             actual: actual,
             expected_units: units,
             actual_units: actual_units,
+            place: place,
         });
     }
-    NdpOptionRead::Accepted
+    NdpOptionRead::Accepted(place)
 }
 
-// An option of any size (docs/RULES.md O2): at least 8 bytes, its type, a length that is not 0, and as many bytes as that says. It has no
-// number of units to expect, so refusal 8 carries the found one twice.
-pub fn sized(id: NdpOptionType, slice: &[u8]) -> NdpOptionRead
-    ensures { λ r. ⌜ readTold r ≡ sizedOf (id .0) (now (slice .entry)) ⌝ }
+// An option of any size (docs/RULES.md O2), whose first byte is at an offset of the packet: at least 8 bytes, its type, a length that is not 0, and
+// as many bytes as that says. It has no number of units to expect, so refusal 8 carries the found one twice.
+pub fn sized(id: NdpOptionType, slice: &[u8], offset: usize) -> NdpOptionRead
+    ensures { λ r. ⌜ readTold r ≡ placed offset (now (slice .entry)) (sizedOf (id .0) (now (slice .entry))) ⌝ }
+{
+    if packet_place::is_far(offset, slice.len()) {
+        return NdpOptionRead::Refused(Refusal::FarOffset);
+    }
+    sized_at(id, slice, offset)
+}
+
+fn sized_at(id: NdpOptionType, slice: &[u8], place: usize) -> NdpOptionRead
+    ensures { λ r. ⌜ readTold r ≡ withPlace place (sizedOf (id .0) (now (slice .entry))) ⌝ }
 {
     let length = slice.len();
     if length < 8 {
@@ -58,6 +79,7 @@ pub fn sized(id: NdpOptionType, slice: &[u8]) -> NdpOptionRead
             id: id,
             expected: 8,
             actual: length,
+            place: place,
         });
     }
     let header = header_at(slice);
@@ -69,10 +91,14 @@ pub fn sized(id: NdpOptionType, slice: &[u8]) -> NdpOptionRead
             actual: actual,
             expected_units: length_units,
             actual_units: length_units,
+            place: place,
         });
     }
     if length_units.0 == 0 {
-        return NdpOptionRead::Refused(Refusal::ZeroLength { id: id });
+        return NdpOptionRead::Refused(Refusal::ZeroLength {
+            id: id,
+            place: place,
+        });
     }
     let size = header.byte_len();
     if length != size {
@@ -80,9 +106,10 @@ pub fn sized(id: NdpOptionType, slice: &[u8]) -> NdpOptionRead
             id: id,
             expected: size,
             actual: length,
+            place: place,
         });
     }
-    NdpOptionRead::Accepted
+    NdpOptionRead::Accepted(place)
 }
 
 // The header, with 0 for a byte that is not there.

@@ -13,8 +13,8 @@ use lib.Seq.{drop-length}
 use Rattle.paper.specs.Each.{Each}
 use Rattle.paper.specs.Paper.{Paper}
 use Rattle.refusal.specs.declared.Refusal.{Refusal}
+use Rattle.packet_length.specs.Length.{limit}
 use Rattle.ndp_walk.specs.Walk.{Item, Clean, RefusedAt, then, shift}
-use Rattle.ndp_walk.specs.Step.{ended}
 use Rattle.ndp_walk.specs.Laws.{Touch, endPlace, total, bytesIn, Of, Whole, concat, placed, missing, joined}
 use Rattle.ndp_walk.proofs.Judging.{known, over}
 use Rattle.ndp_walk.proofs.Steps.{beyond, within}
@@ -64,26 +64,26 @@ pub options-clean : (os : List (List ℕ)) → Each (Whole rule) os → walk (co
 options-clean = every.options-clean rule
 
 -- ---- steps
-module _ (s : List ℕ) where
+module _ (o : ℕ) (s : List ℕ) where
   -- at the end it answers End
-  pub end-at-end : {x : Step} → stepTold x ≡ stepOf s (length s) → x ≡ End
-  end-at-end {x} e = step-lossless x End (e ∙ within rule s (length s) (omega arith) (known (over (ap length (drop-length s)))))
+  pub end-at-end : o + length s ≤ limit → {x : Step} → stepTold x ≡ stepOf o s (length s) → x ≡ End
+  end-at-end near {x} e = step-lossless x End (e ∙ within rule o s (length s) near (omega arith) (known (over (ap length (drop-length s)))))
 
-  -- W2: beyond the bytes there is no rest, and the step is Stopped
-  pub stopped-beyond : (at : ℕ) → length s < at → (drop at s ≡ []) × ((x : Step) → stepTold x ≡ stepOf s at → x ≡ Stopped)
-  stopped-beyond at h = (beyond rule s at h .0, λ x e. step-lossless x Stopped (e ∙ beyond rule s at h .1))
+  -- W2: beyond the bytes there is no rest, and the step is Stopped, whatever the offset
+  pub stopped-beyond : (at : ℕ) → length s < at → (drop at s ≡ []) × ((x : Step) → stepTold x ≡ stepOf o s at → x ≡ Stopped)
+  stopped-beyond at h = (beyond rule o s at h .0, λ x e. step-lossless x Stopped (e ∙ beyond rule o s at h .1))
 
   -- End is answered nowhere else: an empty rest is not yet a clean end
-  pub end-only-there : (at : ℕ) {x : Step} → stepTold x ≡ stepOf s at → x ≡ End → at ≡ length s
+  pub end-only-there : (at : ℕ) {x : Step} → stepTold x ≡ stepOf o s at → x ≡ End → at ≡ length s
   end-only-there at {x} e arm = elim (decLe at (length s)) [
-    | yes h ↦ ended-at s at h e arm .0
+    | yes h ↦ ended-at o s at h e arm .1
     | no h ↦ let z = stopped-beyond at (omega arith) .1 x e in cc
   ]
 
   -- W6: after a refusal there is no rest, and every further step is Stopped, not End
-  pub stopped-after : (at : ℕ) {x : Step} {why : Refusal} {next : Cursor} → stepTold x ≡ stepOf s at → x ≡ Refused why next → (drop (next .at) s ≡ []) × ((y : Step) → stepTold y ≡ stepOf s (next .at) → y ≡ Stopped)
+  pub stopped-after : (at : ℕ) {x : Step} {why : Refusal} {next : Cursor} → stepTold x ≡ stepOf o s at → x ≡ Refused why next → (drop (next .at) s ≡ []) × ((y : Step) → stepTold y ≡ stepOf o s (next .at) → y ≡ Stopped)
   stopped-after at {x} {why} {next} e arm = elim (decLe at (length s)) [
-    | yes h ↦ stopped-beyond (next .at) (let n = refused-at s at h e arm .0 in omega arith)
+    | yes h ↦ stopped-beyond (next .at) (let n = refused-at o s at h e arm .0 in omega arith)
     | no h ↦ absurd (let z = stopped-beyond at (omega arith) .1 x e in let no : _≡_ {A = ℕ} 0 1 = cc in omega arith)
   ]
 

@@ -4,5 +4,6 @@ pub mod Reasons
 pub mod Steps
 pub mod Run
 pub mod Laws
+pub mod Places
 pub mod Examples
 pub mod Unique

@@ -14,6 +14,7 @@ use Rattle.paper.specs.Paper.{Paper, refuses}
 use Rattle.refusal.specs.declared.Refusal.{Refusal}
 use Rattle.refusal.specs.declared.Refusal.the-variants.{UnexpectedSize, ZeroLength, UnexpectedEndOfSlice}
 use Rattle.refusal.specs.Paper.{refusal}
+use Rattle.packet_place.specs.Place.{withPlace}
 use Rattle.ndp_option_header.specs.Header.{unitBytes}
 use Rattle.ndp_walk.specs.Judge.{Judgement, Ruling, Fits, Misfits, Bad, ruled, judge}
 use Rattle.ndp_walk.specs.Walk.{RefusedAt}
@@ -48,12 +49,12 @@ reason l {why} e = go (view rule l) e
     go (by.cut h u f) e = is cut e
     go (by.whole u f) e = own (take (unitBytes (getD l 1 0)) l) _ (omega (arith, length-take-le (unitBytes (getD l 1 0)) l f)) (omega (arith, length-take-le (unitBytes (getD l 1 0)) l f)) refl e
 
--- each is that of a refusal
-pub told-by : {l : List ℕ} {p : Paper} → Reason l p → (why : Refusal) × (refusal why ≡ p)
-told-by {l} (short h) = (UnexpectedSize (record { 0 = getD l 0 0 }) 2 (length l), refl)
-told-by {l} empty = (ZeroLength (record { 0 = getD l 0 0 }), refl)
-told-by {l} cut = (UnexpectedEndOfSlice (record { 0 = getD l 0 0 }) (unitBytes (getD l 1 0)) (length l), refl)
-told-by (misfit type asked len h f) = (UnexpectedSize (record { 0 = type }) asked len, refl)
+-- each, with a place, is that of a refusal
+pub told-by : {l : List ℕ} {p : Paper} (place : ℕ) → Reason l p → (why : Refusal) × (refusal why ≡ withPlace place p)
+told-by {l} place (short h) = (UnexpectedSize (record { 0 = getD l 0 0 }) 2 (length l) place, refl)
+told-by {l} place empty = (ZeroLength (record { 0 = getD l 0 0 }) place, refl)
+told-by {l} place cut = (UnexpectedEndOfSlice (record { 0 = getD l 0 0 }) (unitBytes (getD l 1 0)) (length l) place, refl)
+told-by place (misfit type asked len h f) = (UnexpectedSize (record { 0 = type }) asked len place, refl)
 
 module _ (s : List ℕ) {at : ℕ} {why : Paper} (e : walk s .ending ≡ RefusedAt at why) where
   -- refusals 5, 6 and 7; never 8

@@ -1,8 +1,7 @@
--- The types' rule (docs/RULES.md W4) at the head of a rest, from the header that was read there: it looks at the type and the length alone.
+-- The types' rule (docs/RULES.md W4) at the head of a rest: it looks at the type and the length alone.
 -- Assumes nothing.
 use Prim.Native.Nat.{ℕ, _≤_, _<_}
-use mathlib.Core.Path.{_≡_, sym, _∙_}
-use mathlib.Core.Logic.{_≢_}
+use mathlib.Core.Path.{_≡_, sym, ap, _∙_}
 use mathlib.Core.Bool.{Bool, true, false, cond}
 use mathlib.Core.List.{List, [], _∷_}
 use native.Mathlib.Omega.{arith}
@@ -10,12 +9,10 @@ use lib.Dec.{eqb, lit≤}
 use lib.ListN.{length, getD, take}
 use lib.Seq.{length-take-le, getD-take}
 use native.Mathlib.Decide.{decLe}
-use borrow.Author.Tests.{eq-eqb, ne-eqb, lt-ltb, le-ltb}
+use borrow.Author.Tests.{lt-ltb, le-ltb}
 use Rattle.paper.specs.Paper.{Paper, refuses}
 use Rattle.ndp_option_header.specs.Header.{unitBytes}
-use Rattle.ndp_option_header.specs.declared.NdpOptionHeader.{NdpOptionHeader}
-use Rattle.ndp_option_header.proofs.Read.{HeaderOf}
-use Rattle.ndp_walk.specs.Judge.{Fits, Misfits, Bad, Good, ruled, judge}
+use Rattle.ndp_walk.specs.Judge.{Fits, Misfits, Bad, ruled, judge}
 use Rattle.ndp_walk.specs.Laws.{Numbered}
 use Rattle.ndp_walk.proofs.Judging.{known, empty, cut, whole}
 use Rattle.ndp_options.specs.Rule.{optionKind, askedOf, ruleOf, rule}
@@ -47,32 +44,21 @@ fits o k e = go (eqb (length o) (askedOf (getD o 0 0) (length o))) e
 pub numbered : Numbered rule
 numbered o why e = rw (← misfits o why e) (lit≤ tt)
 
-module _ (l : List ℕ) (h : NdpOptionHeader) (r : HeaderOf l h) where
-  abbrev id : ℕ
-  id = h .«option_type» .0
+-- the judgement at the head of a rest, from the units and the length that were read there
+module _ (l : List ℕ) {units len : ℕ} (is : units ≡ getD l 1 0) (long : len ≡ unitBytes units) where
+  bytes : unitBytes (getD l 1 0) ≡ len
+  bytes = sym (long ∙ ap unitBytes is)
 
-  abbrev units : ℕ
-  units = h .«length_units» .0
+  pub no-units : 1 < length l → units ≡ 0 → judge rule l ≡ Bad (refuses 6 (getD l 0 0 ∷ []))
+  no-units h u = known (empty h (sym is ∙ u))
 
-  abbrev len : ℕ
-  len = unitBytes units
-
-  pub no-units : units ≡ 0 → judge rule l ≡ Bad (refuses 6 (id ∷ []))
-  no-units u = rw (r .id) (known (empty (r .enough) (sym (r .units) ∙ u)))
-
-  pub cut-short : 0 < units → length l < len → judge rule l ≡ Bad (refuses 7 (id ∷ len ∷ length l ∷ []))
-  cut-short u f = rw (r .id, r .units) (known (cut (r .enough) (rw (r .units) at u) (rw (r .units) at f)))
+  pub cut-short : 1 < length l → 0 < units → length l < len → judge rule l ≡ Bad (refuses 7 (getD l 0 0 ∷ len ∷ length l ∷ []))
+  cut-short h u f = rw (← bytes) (known (cut h (rw is at u) (rw (← bytes) at f)))
 
   -- the rule on the option's own bytes
-  own : 0 < units → len ≤ length l → rule (take len l) ≡ ruleOf id len
+  own : 0 < units → len ≤ length l → rule (take len l) ≡ ruleOf (getD l 0 0) len
   unfolding rule
-  own u f = rw (getD-take len l 0 0 (omega arith), length-take-le len l f, r .id)
+  own u f = rw (getD-take len l 0 0 (omega arith), length-take-le len l f)
 
-  by-rule : 0 < units → len ≤ length l → judge rule l ≡ ruled id len (ruleOf id len)
-  by-rule u f = known (whole (rw (r .units) at u) (rw (r .units) at f)) ∙ rw (← (r .units), ← (r .id), own u f)
-
-  pub other-size : 0 < units → len ≤ length l → len ≢ askedOf id len → judge rule l ≡ Bad (refuses 5 (id ∷ askedOf id len ∷ len ∷ []))
-  other-size u f n = by-rule u f ∙ rw (ne-eqb len (askedOf id len) n)
-
-  pub its-size : 0 < units → len ≤ length l → len ≡ askedOf id len → judge rule l ≡ Good (optionKind id) id len
-  its-size u f e = by-rule u f ∙ rw (eq-eqb len (askedOf id len) e)
+  pub by-rule : 0 < units → len ≤ length l → judge rule l ≡ ruled (getD l 0 0) len (ruleOf (getD l 0 0) len)
+  by-rule u f = known (whole (rw is at u) (rw (← bytes) at f)) ∙ rw (bytes, own u f)

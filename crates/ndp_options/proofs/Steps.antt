@@ -10,9 +10,10 @@ use borrow.Author.Tests.{eqb-false}
 use Rattle.refusal.specs.declared.Refusal.{Refusal}
 use Rattle.refusal.specs.Paper.{refusal}
 use Rattle.refusal.proofs.Paper.{refusal-numbered}
-use Rattle.ndp_walk.specs.Walk.{clean, refused}
+use Rattle.packet_length.specs.Length.{limit}
+use Rattle.ndp_walk.specs.Walk.{clean}
 use Rattle.ndp_walk.proofs.Steps as by
-use Rattle.ndp_walk.proofs.Steps.{Onward}
+use Rattle.ndp_walk.proofs.Steps.{Onward, Refusing}
 use Rattle.ndp_options.specs.Rule.{rule}
 use Rattle.ndp_options.specs.Walk.{walkFrom, stepOf}
 use Rattle.ndp_options.specs.Told.{itemTold, stepTold}
@@ -26,16 +27,16 @@ use Rattle.ndp_options.proofs.Rule.{numbered}
 pub refuses-some : (why : Refusal) → 0 < refusal why .number
 refuses-some why = omega (arith, eqb-false (refusal why .number) 0 (refusal-numbered why))
 
-module _ (s : List ℕ) (at : ℕ) (h : at ≤ length s) where
+module _ (o : ℕ) (s : List ℕ) (at : ℕ) (h : at ≤ length s) where
   -- the option is one of the bytes', the next cursor is behind it and within the bytes, and the walk hands it out and goes on from there
-  pub handed-on : {x : Step} {o : NdpOption} {next : Cursor} → stepTold x ≡ stepOf s at → x ≡ Handed o next → Onward rule s at (itemTold o) (next .at)
-  handed-on e arm = by.handed-on rule numbered s at h (sym e ∙ ap stepTold arm)
+  pub handed-on : {x : Step} {option : NdpOption} {next : Cursor} → stepTold x ≡ stepOf o s at → x ≡ Handed option next → Onward rule o s at (itemTold option) (option .place) (next .at)
+  handed-on e arm = by.handed-on rule numbered o s at h (sym e ∙ ap stepTold arm)
 
-  pub ended-at : {x : Step} → stepTold x ≡ stepOf s at → x ≡ End → (at ≡ length s) × (walkFrom at (drop at s) ≡ clean)
-  ended-at e arm = by.ended-at rule numbered s at h (sym e ∙ ap stepTold arm)
+  pub ended-at : {x : Step} → stepTold x ≡ stepOf o s at → x ≡ End → (o + length s ≤ limit) × (at ≡ length s) × (walkFrom (o + at) (drop at s) ≡ clean)
+  ended-at e arm = by.ended-at rule numbered o s at h (sym e ∙ ap stepTold arm)
 
-  pub refused-at : {x : Step} {why : Refusal} {next : Cursor} → stepTold x ≡ stepOf s at → x ≡ Refused why next → (next .at ≡ length s + 1) × (walkFrom at (drop at s) ≡ refused at (refusal why))
-  refused-at {why = why} e arm = by.refused-at rule numbered s at h (refuses-some why) (sym e ∙ ap stepTold arm)
+  pub refused-at : {x : Step} {why : Refusal} {next : Cursor} → stepTold x ≡ stepOf o s at → x ≡ Refused why next → (next .at ≡ length s + 1) × Refusing rule o s at (refusal why)
+  refused-at {why = why} e arm = by.refused-at rule numbered o s at h (refuses-some why) (sym e ∙ ap stepTold arm)
 
-  pub not-stopped : {x : Step} → stepTold x ≡ stepOf s at → x ≡ Stopped → ⊥
-  not-stopped e arm = by.not-stopped rule numbered s at h (sym e ∙ ap stepTold arm)
+  pub not-stopped : {x : Step} → stepTold x ≡ stepOf o s at → x ≡ Stopped → ⊥
+  not-stopped e arm = by.not-stopped rule numbered o s at h (sym e ∙ ap stepTold arm)

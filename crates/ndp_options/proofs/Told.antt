@@ -36,7 +36,7 @@ abbrev given : ℕ → List ℕ → ℕ → Step
 given which v next =
     cond (eqb which 0) End
     (cond (eqb which 1) Stopped
-    (Handed (record { kind = kindBack (getD v 1 0); «option_type» = record { 0 = getD v 2 0 }; at = getD v 3 0; len = getD v 4 0 }) (record { at = next })))
+    (Handed (record { kind = kindBack (getD v 1 0); «option_type» = record { 0 = getD v 2 0 }; at = getD v 3 0; len = getD v 4 0; place = getD v 5 0 }) (record { at = next })))
 
 abbrev stepBack : Told → Step
 stepBack t =

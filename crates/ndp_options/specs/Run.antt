@@ -2,28 +2,48 @@
 -- Assumes nothing.
 use Prim.Native.Nat.{ℕ}
 use mathlib.Core.Path.{_≡_}
+use mathlib.Core.Bool.{cond}
 use mathlib.Core.List.{List, [], _∷_}
+use lib.ListN.{length}
+use Rattle.paper.specs.Paper.{Paper}
+use Rattle.packet_place.specs.Place.{isFar, far, withPlace}
 use Rattle.refusal.specs.declared.Refusal.{Refusal}
 use Rattle.refusal.specs.Paper.{refusal}
-use Rattle.ndp_walk.specs.Walk.{Item, Ending, Clean, RefusedAt}
-use Rattle.ndp_options.specs.Walk.{stepOf}
-use Rattle.ndp_options.specs.Told.{itemTold, stepTold}
+use Rattle.ndp_walk.specs.Walk.{Item, Ending, Clean, RefusedAt, item}
+use Rattle.ndp_options.specs.Walk.{walkFrom, stepOf}
+use Rattle.ndp_options.specs.Told.{optionKindNumber, stepTold}
 use Rattle.ndp_options.specs.declared.NdpOption.{NdpOption}
 use Rattle.ndp_options.specs.declared.Cursor.{Cursor}
 use Rattle.ndp_options.specs.declared.Step.the-variants.{Handed, End, Refused, Stopped}
 
--- from a place, by steps that hand out these options, to a place
-pub data Steps (s : List ℕ) : ℕ → List Item → ℕ → Type 0 where
-  here : {at : ℕ} → Steps s at [] at
-  on : {at to : ℕ} {is : List Item} (o : NdpOption) (next : Cursor) → stepTold (Handed o next) ≡ stepOf s at → Steps s (next .at) is to → Steps s at (itemTold o ∷ is) to
+-- an option as the packet has it
+abbrev pub placedTold : NdpOption → Item
+placedTold o = item (optionKindNumber (o .kind)) (o .«option_type» .0) (o .place) (o .len)
 
--- how a run ends: as a walk does, or stopped
+-- from a place, by steps that hand out these options, to a place
+pub data Steps (offset : ℕ) (s : List ℕ) : ℕ → List Item → ℕ → Type 0 where
+  here : {at : ℕ} → Steps offset s at [] at
+  on : {at to : ℕ} {is : List Item} (o : NdpOption) (next : Cursor) → stepTold (Handed o next) ≡ stepOf offset s at → Steps offset s (next .at) is to → Steps offset s at (placedTold o ∷ is) to
+
+-- the last answer of a run
 pub data Last : Type 0 where
-  As : Ending → Last
+  Ended : Last
+  RefusedBy : Paper → Last
   Halted : Last
 
 -- from the first byte on, until a step hands out no option: what was handed out, and the last answer
-pub data Run (s : List ℕ) : List Item → Last → Type 0 where
-  ends : {is : List Item} {at : ℕ} → Steps s 0 is at → stepTold End ≡ stepOf s at → Run s is (As Clean)
-  refuses : {is : List Item} {at : ℕ} (why : Refusal) (next : Cursor) → Steps s 0 is at → stepTold (Refused why next) ≡ stepOf s at → Run s is (As (RefusedAt at (refusal why)))
-  stops : {is : List Item} {at : ℕ} → Steps s 0 is at → stepTold Stopped ≡ stepOf s at → Run s is Halted
+pub data Run (offset : ℕ) (s : List ℕ) : List Item → Last → Type 0 where
+  ends : {is : List Item} {at : ℕ} → Steps offset s 0 is at → stepTold End ≡ stepOf offset s at → Run offset s is Ended
+  refuses : {is : List Item} {at : ℕ} (why : Refusal) (next : Cursor) → Steps offset s 0 is at → stepTold (Refused why next) ≡ stepOf offset s at → Run offset s is (RefusedBy (refusal why))
+  stops : {is : List Item} {at : ℕ} → Steps offset s 0 is at → stepTold Stopped ≡ stepOf offset s at → Run offset s is Halted
+
+-- what a run comes to: the walk's options and its ending, or at once the refusal of bytes too far on
+abbrev pub lastOf : Ending → Last
+lastOf Clean = Ended
+lastOf (RefusedAt place why) = RefusedBy (withPlace place why)
+
+abbrev pub ranItems : ℕ → List ℕ → List Item
+ranItems offset s = cond (isFar offset (length s)) [] (walkFrom offset s .items)
+
+abbrev pub ranLast : ℕ → List ℕ → Last
+ranLast offset s = cond (isFar offset (length s)) (RefusedBy far) (lastOf (walkFrom offset s .ending))

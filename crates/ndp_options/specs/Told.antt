@@ -2,6 +2,7 @@
 -- Assumes nothing.
 use Prim.Native.Nat.{ℕ}
 use Rattle.refusal.specs.Paper.{refusal}
+use Rattle.packet_place.specs.Place.{withPlace}
 use Rattle.ndp_walk.specs.Judge as by
 use Rattle.ndp_walk.specs.Walk.{Item, item}
 use Rattle.ndp_walk.specs.Step.{Told, told, ended, stopped, handed}
@@ -29,8 +30,14 @@ judgedTold Over = by.Over
 judgedTold (Bad why) = by.Bad (refusal why)
 judgedTold (Good found) = by.Good (optionKindNumber (found .kind)) (found .«option_type» .0) (found .len)
 
+-- a judgement whose refusal carries its place
+abbrev pub judgedAt : ℕ → by.Judgement → by.Judgement
+judgedAt place by.Over = by.Over
+judgedAt place (by.Bad why) = by.Bad (withPlace place why)
+judgedAt place (by.Good kind type len) = by.Good kind type len
+
 abbrev pub stepTold : Step → Told
-stepTold (Handed o next) = handed (itemTold o) (next .at)
+stepTold (Handed o next) = handed (itemTold o) (o .place) (next .at)
 stepTold End = ended
 stepTold (Refused why next) = told (refusal why) (next .at)
 stepTold Stopped = stopped

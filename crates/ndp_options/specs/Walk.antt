@@ -13,5 +13,5 @@ walk s = by.walk rule s
 abbrev pub walkFrom : ℕ → List ℕ → Walk
 walkFrom at l = by.walkFrom rule at l
 
-abbrev pub stepOf : List ℕ → ℕ → Told
-stepOf s at = stepBy rule s at
+abbrev pub stepOf : ℕ → List ℕ → ℕ → Told
+stepOf offset s at = stepBy rule offset s at

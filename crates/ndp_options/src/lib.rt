@@ -3,11 +3,11 @@
 ghost use mathlib.Core.Path.{_≡_};
 ghost use lib.Dec.{eqb};
 ghost use lib.ListN.{drop, take};
-ghost use Rattle.ndp_walk.specs.Judge.{judge};
-ghost use Rattle.ndp_options.specs.Rule.{rule, askedOf, optionKind};
+ghost use Rattle.ndp_walk.specs.Judge.{ruled, judge};
+ghost use Rattle.ndp_options.specs.Rule.{rule, ruleOf, askedOf, optionKind};
 ghost use Rattle.ndp_options.specs.Walk.{stepOf};
-ghost use Rattle.ndp_options.specs.Told.{optionKindNumber, judgedTold, stepTold};
-use ndp_option_header::HeaderRead;
+ghost use Rattle.ndp_options.specs.Told.{optionKindNumber, judgedTold, judgedAt, stepTold};
+use ndp_option_header::NDP_OPTION_HEADER_LEN;
 use ndp_option_header::NdpOptionHeader;
 use refusal::NdpOptionType;
 use refusal::Refusal;
@@ -21,12 +21,13 @@ pub enum NdpOptionKind {
     Mtu,
 }
 
-// An option that was handed out: what it is, where it starts and how many bytes it has.
+// An option that was handed out: what it is, where it starts in the option bytes, how many bytes it has, and its place in the packet.
 pub struct NdpOption {
     pub kind: NdpOptionKind,
     pub option_type: NdpOptionType,
     pub at: usize,
     pub len: usize,
+    pub place: usize,
 }
 
 // A place in the option bytes. A place beyond them is that of a stopped walk.
@@ -101,46 +102,59 @@ fn fits(id: NdpOptionType, len: usize) -> bool
     }
 }
 
-// What stands at the head of a rest. The only function that applies the types' own rule. A refusal is made where it is answered, so that an option
-// costs nothing for it.
-fn judge(rest: &[u8]) -> Judged
-    ensures { λ r. ⌜ judgedTold r ≡ judge rule (now (rest .entry)) ⌝ }
+// By the type's own rule: an option, or refused for its size. The only function that applies it. A refusal is made where it is answered, so that an
+// option costs nothing for it.
+fn by_rule(id: NdpOptionType, len: usize, place: usize) -> Judged
+    ensures { λ r. ⌜ judgedTold r ≡ judgedAt place (ruled (id .0) len (ruleOf (id .0) len)) ⌝ }
+{
+    if fits(id, len) {
+        let kind = kind_of(id);
+        return Judged::Good(Found {
+            kind,
+            option_type: id,
+            len,
+        });
+    }
+    Judged::Bad(Refusal::UnexpectedSize {
+        id,
+        expected: asked_len(id, len),
+        actual: len,
+        place,
+    })
+}
+
+// What stands at the head of a rest, whose first byte is at a place of the packet.
+fn judge(rest: &[u8], place: usize) -> Judged
+    ensures { λ r. ⌜ judgedTold r ≡ judgedAt place (judge rule (now (rest .entry))) ⌝ }
 {
     let left = rest.len();
     if left == 0 {
         return Judged::Over;
     }
-    match NdpOptionHeader::from_slice(rest) {
-        HeaderRead::Refused(why) => Judged::Bad(why),
-        HeaderRead::Header(header) => {
-            let id = header.option_type;
-            let units = header.length_units;
-            if units.0 == 0 {
-                return Judged::Bad(Refusal::ZeroLength { id });
-            }
-            let len = header.byte_len();
-            if left < len {
-                return Judged::Bad(Refusal::UnexpectedEndOfSlice {
-                    id,
-                    expected: len,
-                    actual: left,
-                });
-            }
-            if fits(id, len) {
-                let kind = kind_of(id);
-                return Judged::Good(Found {
-                    kind,
-                    option_type: id,
-                    len,
-                });
-            }
-            Judged::Bad(Refusal::UnexpectedSize {
-                id,
-                expected: asked_len(id, len),
-                actual: len,
-            })
-        }
+    let id = NdpOptionType(rest[0]);
+    if left < NDP_OPTION_HEADER_LEN {
+        return Judged::Bad(Refusal::UnexpectedSize {
+            id,
+            expected: NDP_OPTION_HEADER_LEN,
+            actual: left,
+            place,
+        });
     }
+    let header = NdpOptionHeader::from_bytes([rest[0], rest[1]]);
+    let units = header.length_units;
+    if units.0 == 0 {
+        return Judged::Bad(Refusal::ZeroLength { id, place });
+    }
+    let len = header.byte_len();
+    if left < len {
+        return Judged::Bad(Refusal::UnexpectedEndOfSlice {
+            id,
+            expected: len,
+            actual: left,
+            place,
+        });
+    }
+    by_rule(id, len, place)
 }
 
 impl Cursor {
@@ -162,16 +176,21 @@ impl Cursor {
         &options[from..]
     }
 
-    // What stands at the cursor, and the next cursor.
-    pub fn step(self, options: &[u8]) -> Step
-        ensures { λ r. ⌜ stepTold r ≡ stepOf (now (options .entry)) (self .at) ⌝ }
+    // What stands at the cursor, and the next cursor. The first byte of the options is at an offset of the packet.
+    pub fn step(self, options: &[u8], offset: usize) -> Step
+        ensures { λ r. ⌜ stepTold r ≡ stepOf offset (now (options .entry)) (self .at) ⌝ }
     {
         let at = self.at;
         let n = options.len();
         if n < at {
             return Step::Stopped;
         }
-        match judge(&options[at..]) {
+        if packet_place::is_far(offset, n) {
+            let beyond = n + 1;
+            return Step::Refused(Refusal::FarOffset, Cursor { at: beyond });
+        }
+        let place = offset + at;
+        match judge(&options[at..], place) {
             Judged::Over => Step::End,
             Judged::Bad(why) => {
                 let beyond = n + 1;
@@ -186,6 +205,7 @@ impl Cursor {
                     option_type: id,
                     at,
                     len,
+                    place,
                 };
                 let next = at + len;
                 Step::Handed(option, Cursor { at: next })

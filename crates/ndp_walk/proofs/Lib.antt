@@ -4,3 +4,4 @@ pub mod Paths
 pub mod Laws
 pub mod Steps
 pub mod Missing
+pub mod Placed

@@ -38,7 +38,7 @@ pub record Of (rule : Rule) (s : List ℕ) (i : Item) : Type 0 where
   pub least : 8 ≤ i .len
   pub kind : rule (bytesIn s i) ≡ Fits (i .kind)
 
--- the rule's refusals have a number above 0 (docs/RULES.md N1 to N14)
+-- the rule's refusals have a number above 0 (docs/RULES.md, area N)
 abbrev pub Numbered : Rule → Type 0
 Numbered rule = (o : List ℕ) (why : Paper) → rule o ≡ Misfits why → 0 < why .number
 

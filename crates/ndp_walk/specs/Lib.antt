@@ -2,3 +2,4 @@ pub mod Judge
 pub mod Walk
 pub mod Step
 pub mod Laws
+pub mod Placed

@@ -1,5 +1,5 @@
 // The walk as a struct that holds its slice (docs/RULES.md W16). Each function takes the walker apart and leaves the work to a function on the
-// slice and the place; those over the struct are proved by hand.
+// slice and the numbers; those over the struct are proved by hand.
 ghost use mathlib.Core.Path.{_≡_};
 ghost use lib.ListN.{drop};
 ghost use Rattle.ndp_options.specs.Walk.{stepOf};
@@ -7,16 +7,18 @@ ghost use Rattle.ndp_options.specs.Told.{stepTold};
 use ndp_options::Cursor;
 use ndp_options::Step;
 
+// The option bytes, the offset at which they begin in the packet, and a place among them.
 pub struct Walker<'a> {
     pub options: &'a [u8],
+    pub offset: usize,
     pub at: usize,
 }
 
-fn step_at(options: &[u8], at: usize) -> Step
-    ensures { λ r. ⌜ stepTold r ≡ stepOf (now (options .entry)) at ⌝ }
+fn step_at(options: &[u8], offset: usize, at: usize) -> Step
+    ensures { λ r. ⌜ stepTold r ≡ stepOf offset (now (options .entry)) at ⌝ }
 {
     let here = Cursor { at };
-    here.step(options)
+    here.step(options, offset)
 }
 
 fn rest_at<'a>(options: &'a [u8], at: usize) -> &'a [u8]
@@ -27,17 +29,21 @@ fn rest_at<'a>(options: &'a [u8], at: usize) -> &'a [u8]
 }
 
 // A walker at the first byte.
-pub fn from_slice<'a>(options: &'a [u8]) -> Walker<'a>
-    ensures { λ r. ⌜ (r .options ≡ options .entry) × (r .at ≡ 0) ⌝ }
+pub fn from_slice<'a>(options: &'a [u8], offset: usize) -> Walker<'a>
+    ensures { λ r. ⌜ (r .options ≡ options .entry) × (r .offset ≡ offset) × (r .at ≡ 0) ⌝ }
 {
-    Walker { options, at: 0 }
+    Walker {
+        options,
+        offset,
+        at: 0,
+    }
 }
 
 // What stands at the walker's place, with the cursor of the next.
 pub fn step<'a>(w: Walker<'a>) -> Step
-    ensures { λ r. ⌜ stepTold r ≡ stepOf (now (w .entry .options)) (w .entry .at) ⌝ }
+    ensures { λ r. ⌜ stepTold r ≡ stepOf (w .entry .offset) (now (w .entry .options)) (w .entry .at) ⌝ }
 {
-    step_at(w.options, w.at)
+    step_at(w.options, w.offset, w.at)
 }
 
 // The bytes from the walker's place on; none if it is beyond them.
@@ -48,8 +54,8 @@ pub fn rest<'a>(w: Walker<'a>) -> &'a [u8]
 }
 
 // The first step over the bytes, for a caller who needs no walker.
-pub fn first_step(options: &[u8]) -> Step
-    ensures { λ r. ⌜ stepTold r ≡ stepOf (now (options .entry)) 0 ⌝ }
+pub fn first_step(options: &[u8], offset: usize) -> Step
+    ensures { λ r. ⌜ stepTold r ≡ stepOf offset (now (options .entry)) 0 ⌝ }
 {
-    step(from_slice(options))
+    step(from_slice(options, offset))
 }

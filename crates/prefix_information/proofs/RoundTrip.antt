@@ -9,10 +9,14 @@ use lib.Dec.{ltb, lit≤}
 use lib.ListN.{length, getD, drop}
 use borrow.Author.Tests.{ne-eqb, le-ltb}
 use Rattle.paper.specs.Paper.{gives}
+use Rattle.packet_length.specs.Length.{limit}
+use Rattle.packet_place.proofs.Laws.{near, placed-near}
 use Rattle.wire.specs.Wire.{word32At, bytes32}
 use Rattle.wire.specs.Bits.{bit, clear}
 use Rattle.wire.proofs.Laws.{join32, split32, read-two, two-flags, clear-all, bit-clear}
+use Rattle.ndp_option_read.specs.Rule.{exactlyOf}
 use Rattle.ndp_option_read.proofs.Rules.{Exact, exactly-accepts, exactly-means}
+use Rattle.ndp_option_read.proofs.Placed.{accepted}
 use Rattle.prefix_information.specs.declared.PrefixInformation.{PrefixInformation}
 use Rattle.prefix_information.specs.Prefix.{informationAt, bytesOf, toldWith, prefixOf}
 use Rattle.prefix_information.specs.Reserved.{reserved, clearedFrom}
@@ -20,12 +24,15 @@ use Rattle.prefix_information.proofs.Lists.{one-by-one}
 
 -- the premises say that the lifetimes are of 32 bits and the prefix of 16 bytes, as the record's types have it
 module _ (i : PrefixInformation) (valid : i .«valid_lifetime» < 4294967296) (preferred : i .«preferred_lifetime» < 4294967296) (sixteen : length (i .prefix) ≡ 16) where
-  pub write-read : prefixOf (bytesOf i) ≡ toldWith (gives []) i
+  -- at any offset that is not too far on
+  pub write-read : (o : ℕ) → o + 32 ≤ limit → prefixOf o (bytesOf i) ≡ toldWith (gives (o ∷ [])) i
   unfolding prefixOf
-  write-read =
+  write-read o h =
       let flags = read-two (i .«on_link») (i .«autonomous_address_configuration») in
-      let accepted = exactly-accepts 3 4 (bytesOf i) (record { size = omega arith; kind = refl; says = refl }) in
-      simp (accepted, join32 (i .«valid_lifetime») valid, join32 (i .«preferred_lifetime») preferred, flags .0, flags .1)
+      let size : length (bytesOf i) ≡ 32 = omega arith in
+      let read = placed-near o (bytesOf i) (exactlyOf 3 4 (bytesOf i)) (near o (length (bytesOf i)) (omega arith)) in
+      let says = exactly-accepts 3 4 (bytesOf i) (record { size = size; kind = refl; says = refl }) in
+      rw (read, says) (simp (join32 (i .«valid_lifetime») valid, join32 (i .«preferred_lifetime») preferred, flags .0, flags .1))
 
 -- no bit of the prefix is reserved
 kept : (k : ℕ) (l : List ℕ) → 16 ≤ k → clearedFrom k l ≡ l
@@ -39,10 +46,11 @@ cleared-at k [] i n e h = absurd (omega arith)
 cleared-at k (x ∷ l) zero n e h = let same : k ≡ n = omega arith in ap (λ (m : ℕ). clear (reserved m) x) same
 cleared-at k (x ∷ l) (suc i) n e h = cleared-at (suc k) l i n (omega arith) (omega arith)
 
-module _ (s : List ℕ) (accepted : prefixOf s .paper ≡ gives []) (bytes : (i : ℕ) → getD s i 0 < 256) where
+-- of an option that was accepted, at any offset
+module _ (o : ℕ) (s : List ℕ) {place : ℕ} (read : prefixOf o s .paper ≡ gives (place ∷ [])) (bytes : (i : ℕ) → getD s i 0 < 256) where
   exact : Exact 3 4 s
   unfolding prefixOf
-  exact = exactly-means 3 4 s accepted
+  exact = exactly-means 3 4 s (accepted o s (exactlyOf 3 4 s) read .1)
 
   -- four bytes from byte i on, written as they were read
   four : (i : ℕ) (l : List ℕ) → bytes32 (word32At s i) ++ l ≡ getD s i 0 ∷ getD s (i + 1) 0 ∷ getD s (i + 2) 0 ∷ getD s (i + 3) 0 ∷ l

@@ -27,27 +27,32 @@ information length =
     }
 
 pub data Case : Type 0 where
-  -- these bytes are answered so
-  reads : List ℕ → PrefixTold → Case
+  -- these bytes at an offset are answered so
+  reads : ℕ → List ℕ → PrefixTold → Case
   -- what these bytes say is written so
   writes : List ℕ → List ℕ → Case
 
 abbrev pub Claim : Case → Type 0
-Claim (reads s t) = prefixOf s ≡ t
+Claim (reads o s t) = prefixOf o s ≡ t
 Claim (writes s t) = bytesOf (informationAt s) ≡ t
 
 abbrev pub table : List Case
 table =
     -- P8
-    reads (3 ∷ 3 ∷ replicate 22 0) (toldWith (refuses 5 (3 ∷ 32 ∷ 24 ∷ [])) noInformation)
+    reads 0 (3 ∷ 3 ∷ replicate 22 0) (toldWith (refuses 5 (3 ∷ 32 ∷ 24 ∷ 0 ∷ [])) noInformation)
+    ∷ reads 8 (3 ∷ 3 ∷ replicate 22 0) (toldWith (refuses 5 (3 ∷ 32 ∷ 24 ∷ 8 ∷ [])) noInformation)
     -- P9
-    ∷ reads (option 3 4 64 192) (toldWith (gives []) (information 64))
+    ∷ reads 0 (option 3 4 64 192) (toldWith (gives (0 ∷ [])) (information 64))
+    ∷ reads 16 (option 3 4 64 192) (toldWith (gives (16 ∷ [])) (information 64))
     -- P10
-    ∷ reads (option 3 4 64 255) (toldWith (gives []) (information 64))
+    ∷ reads 0 (option 3 4 64 255) (toldWith (gives (0 ∷ [])) (information 64))
     ∷ writes (option 3 4 64 255) (option 3 4 64 192)
     -- a prefix length above 128
-    ∷ reads (option 3 4 200 192) (toldWith (gives []) (information 200))
+    ∷ reads 0 (option 3 4 200 192) (toldWith (gives (0 ∷ [])) (information 200))
     -- 32 bytes with another header
-    ∷ reads (option 4 4 64 192) (toldWith (refuses 8 (3 ∷ 4 ∷ 4 ∷ 4 ∷ [])) noInformation)
-    ∷ reads (option 3 5 64 192) (toldWith (refuses 8 (3 ∷ 3 ∷ 4 ∷ 5 ∷ [])) noInformation)
+    ∷ reads 0 (option 4 4 64 192) (toldWith (refuses 8 (3 ∷ 4 ∷ 4 ∷ 4 ∷ 0 ∷ [])) noInformation)
+    ∷ reads 40 (option 3 5 64 192) (toldWith (refuses 8 (3 ∷ 3 ∷ 4 ∷ 5 ∷ 40 ∷ [])) noInformation)
+    -- the last place that can be told, and one further on
+    ∷ reads 4294967263 (option 3 4 64 192) (toldWith (gives (4294967263 ∷ [])) (information 64))
+    ∷ reads 4294967264 (option 3 4 64 192) (toldWith (refuses 22 []) noInformation)
     ∷ []

@@ -5,6 +5,7 @@ use mathlib.Core.Bool.{false}
 use mathlib.Core.List.{List, _∷_, _++_}
 use lib.ListN.{getD, drop, replicate}
 use Rattle.paper.specs.Paper.{Paper}
+use Rattle.packet_place.specs.Place.{placed}
 use Rattle.wire.specs.Wire.{word32At, bytes32, hasFlag, flagOf}
 use Rattle.prefix_information.specs.declared.PrefixInformation.{PrefixInformation}
 use Rattle.prefix_information.specs.declared.PrefixInformationRead.{PrefixInformationRead}
@@ -54,10 +55,10 @@ prefixTold r = toldWith (readTold (r .answer)) (r .information)
 abbrev pub prefixBy : Paper → List ℕ → PrefixTold
 prefixBy p s = toldWith p (ifRead p (informationAt s) noInformation)
 
--- 32 bytes: the header is judged alone
-unfoldable pub prefixOf32 : List ℕ → PrefixTold
-prefixOf32 s = prefixBy (headed 3 4 s) s
+-- 32 bytes at an offset: the header is judged alone
+unfoldable pub prefixOf32 : ℕ → List ℕ → PrefixTold
+prefixOf32 offset s = prefixBy (placed offset s (headed 3 4 s)) s
 
--- any bytes: first their number
-unfoldable pub prefixOf : List ℕ → PrefixTold
-prefixOf s = prefixBy (exactlyOf 3 4 s) s
+-- any bytes at an offset: first their number
+unfoldable pub prefixOf : ℕ → List ℕ → PrefixTold
+prefixOf offset s = prefixBy (placed offset s (exactlyOf 3 4 s)) s

@@ -32,18 +32,19 @@ pub struct PrefixInformationRead {
 }
 
 impl PrefixInformation {
-    pub fn from_bytes(bytes: [u8; 32]) -> PrefixInformationRead
-        ensures { λ r. ⌜ prefixTold r ≡ prefixOf32 bytes ⌝ }
+    pub fn from_bytes(bytes: [u8; 32], offset: usize) -> PrefixInformationRead
+        ensures { λ r. ⌜ prefixTold r ≡ prefixOf32 offset bytes ⌝ }
     {
-        PrefixInformation::from_slice(&bytes)
+        PrefixInformation::from_slice(&bytes, offset)
     }
 
-    pub fn from_slice(slice: &[u8]) -> PrefixInformationRead
-        ensures { λ r. ⌜ prefixTold r ≡ prefixOf (now (slice .entry)) ⌝ }
+    // The option whose first byte is at an offset of the packet.
+    pub fn from_slice(slice: &[u8], offset: usize) -> PrefixInformationRead
+        ensures { λ r. ⌜ prefixTold r ≡ prefixOf offset (now (slice .entry)) ⌝ }
     {
-        match ndp_option_read::exactly(PREFIX_INFORMATION, LENGTH_UNITS, slice) {
-            NdpOptionRead::Accepted => PrefixInformationRead {
-                answer: NdpOptionRead::Accepted,
+        match ndp_option_read::exactly(PREFIX_INFORMATION, LENGTH_UNITS, slice, offset) {
+            NdpOptionRead::Accepted(place) => PrefixInformationRead {
+                answer: NdpOptionRead::Accepted(place),
                 information: information_in(slice),
             },
             NdpOptionRead::Refused(why) => PrefixInformationRead {

@@ -7,3 +7,4 @@ pub mod Whole
 pub mod NotWhole
 pub mod Paper
 pub mod Unique
+pub mod Never

@@ -18,10 +18,10 @@ use Rattle.receive.specs.Whole.{isWhole}
 abbrev list : List ℕ
 list = 1 ∷ 0 ∷ []
 
-pub refused-not-whole : (x : Step) → stepTold x ≡ stepOf list 0 → isWhole x ≡ false
+pub refused-not-whole : (x : Step) → stepTold x ≡ stepOf 0 list 0 → isWhole x ≡ false
 unfolding stepBy judge
-refused-not-whole x e = ap isWhole (step-lossless x (Refused (ZeroLength (record { 0 = 1 })) (record { at = 3 })) (e ∙ refl))
+refused-not-whole x e = ap isWhole (step-lossless x (Refused (ZeroLength (record { 0 = 1 }) 0) (record { at = 3 })) (e ∙ refl))
 
-pub stopped-not-whole : (x : Step) → stepTold x ≡ stepOf list 3 → isWhole x ≡ false
+pub stopped-not-whole : (x : Step) → stepTold x ≡ stepOf 0 list 3 → isWhole x ≡ false
 unfolding stepBy
 stopped-not-whole x e = ap isWhole (step-lossless x Stopped (e ∙ refl))

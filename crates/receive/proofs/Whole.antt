@@ -6,21 +6,28 @@ use mathlib.Core.Path.{_≡_, refl, sym, ap, _∙_}
 use mathlib.Core.Bool.{true, false, false≢true}
 use mathlib.Core.List.{List}
 use native.Mathlib.Omega.{arith}
-use lib.ListN.{length, getD, drop}
+use lib.ListN.{length, getD, drop, length-drop}
 use borrow.Author.Tests.{not-false, eqb-true}
 use Rattle.paper.specs.Paper.{Paper}
 use Rattle.message_table.specs.Table.{isNdp}
+use Rattle.packet_length.specs.Length.{limit}
 use Rattle.packet_length.proofs.Laws.{sized-fits}
+use Rattle.packet_place.proofs.Laws as place
 use Rattle.icmpv6_type.proofs.Laws.{as-known}
 use Rattle.icmpv6.specs.Head.{decodeOf, fieldsAt}
 use Rattle.ndp_walk.specs.Walk.{Item, Clean, Walk}
+use Rattle.ndp_walk.specs.Laws.{concat}
+use Rattle.ndp_walk.proofs.Steps.{Refusing, far-on, there}
+use Rattle.ndp_walk.proofs.Placed.{clean-from}
+use Rattle.ndp_options.specs.Rule.{rule}
 use Rattle.ndp_options.specs.Walk.{walk, walkFrom, stepOf}
 use Rattle.ndp_options.specs.Told.{stepTold}
-use Rattle.ndp_options.specs.Run.{Steps, As}
+use Rattle.ndp_options.specs.Run.{Steps}
 use Rattle.ndp_options.specs.declared.Step.{Step}
 use Rattle.ndp_options.specs.declared.Step.the-variants.{Handed, End, Refused, Stopped}
 use Rattle.ndp_options.proofs.Steps.{refused-at, not-stopped}
-use Rattle.ndp_options.proofs.Run.{so-far, stepped}
+use Rattle.ndp_options.proofs.Run.{start, stepped}
+use Rattle.ndp_options.proofs.Places.{bytes-in-packet}
 use Rattle.ndp_options.proofs.Laws.{all-bytes}
 use Rattle.receive.specs.declared.Received.{Received}
 use Rattle.receive.specs.declared.Received.the-variants.{Accepted}
@@ -35,14 +42,18 @@ use Rattle.receive.proofs.Types.{ndp-known, ndp-kind}
 use Rattle.receive.proofs.Theorems.{is-clean, accepting, accepted-exactly, not-lacking, opened-whole}
 
 -- a walk that is clean is clean from every place that one comes to
-whole-steps : (s : List ℕ) → walk s .ending ≡ Clean → (is : List Item) (at : ℕ) → Steps s 0 is at → (x : Step) → stepTold x ≡ stepOf s at → isWhole x ≡ true
-whole-steps s clean is at p x e = let h = so-far s (omega arith) p in by (h .0) (sym (ap (λ (w : Walk). w .ending) (h .1)) ∙ clean) x refl
+whole-steps : (o : ℕ) (s : List ℕ) → o + length s ≤ limit → walkFrom o s .ending ≡ Clean → (is : List Item) (at : ℕ) → Steps o s 0 is at → (x : Step) → stepTold x ≡ stepOf o s at → isWhole x ≡ true
+whole-steps o s near clean is at p x e = let h = start o s p in by (h .0) (sym (ap (λ (w : Walk). w .ending) (h .1)) ∙ clean) x refl
   where
-    by : at ≤ length s → walkFrom at (drop at s) .ending ≡ Clean → (y : Step) → x ≡ y → isWhole y ≡ true
-    by h c (Handed o next) arm = refl
+    no-refusal : {why : Paper} → Refusing rule o s at why → walkFrom (o + at) (drop at s) .ending ≡ Clean → ⊥
+    no-refusal (far-on f) c = omega arith
+    no-refusal (there n why w) c = false≢true (ap isClean (sym (ap (λ (w : Walk). w .ending) w) ∙ c))
+
+    by : at ≤ length s → walkFrom (o + at) (drop at s) .ending ≡ Clean → (y : Step) → x ≡ y → isWhole y ≡ true
+    by h c (Handed option next) arm = refl
     by h c End arm = refl
-    by h c (Refused why next) arm = absurd (false≢true (ap isClean (sym (ap (λ (w : Walk). w .ending) (refused-at s at h e arm .1)) ∙ c)))
-    by h c Stopped arm = absurd (not-stopped s at h e arm)
+    by h c (Refused why next) arm = absurd (no-refusal (refused-at o s at h e arm .1) c)
+    by h c Stopped arm = absurd (not-stopped o s at h e arm)
 
 -- what is handed on of an accepted packet is what the dispatch says of it
 pub accepted-opened : (hops : ℕ) (source destination packet : List ℕ) (r : Received) {m : Icmpv6PayloadSlice}
@@ -72,6 +83,8 @@ accepted-whole hops source destination packet r {m} e a n =
     let type = ndp-kind packet n code in
     let at : m .«options_at» ≡ optionsAt 8 (kindAt packet) (length packet) = o .options in
     let clean : walk (optionsFrom m packet) .ending ≡ Clean = rw at (is-clean _ (not-false _ (rs .1 .1 .1 .1 .0))) in
+    let near : m .«options_at» + length (optionsFrom m packet) ≤ limit = omega (arith, length-drop (m .«options_at») packet, o .within, h .0 .high) in
+    let from = clean-from rule (m .«options_at») (optionsFrom m packet) .1 clean in
     record {
       kind =
           sized-fits (length packet) (h .0 .low) (h .0 .high) _
@@ -80,7 +93,7 @@ accepted-whole hops source destination packet r {m} e a n =
       fixed = at ∙ rw (type, n);
       there = o .within;
       clean = clean;
-      all = all-bytes _ clean;
-      steps = whole-steps _ clean;
-      run = λ is l r. let h = stepped _ is l .0 r in (h .0, h .1 ∙ ap As clean);
+      all = ap concat (bytes-in-packet (m .«options_at») packet) ∙ all-bytes _ clean;
+      steps = whole-steps _ _ near from;
+      run = λ is l r. let ran = stepped _ _ is l .0 r in (ran .0 ∙ rw (place.near _ _ near), ran .1 ∙ rw (place.near _ _ near, from));
     }

@@ -11,9 +11,9 @@ use Rattle.icmpv6_type.specs.Value.{fieldsOf}
 use Rattle.icmpv6.specs.Head.{decodeOf, checksumAt, fieldsAt}
 use Rattle.ndp_walk.specs.Walk.{Item, Clean}
 use Rattle.ndp_walk.specs.Laws.{bytesIn, concat}
-use Rattle.ndp_options.specs.Walk.{walk, stepOf}
+use Rattle.ndp_options.specs.Walk.{walk, walkFrom, stepOf}
 use Rattle.ndp_options.specs.Told.{stepTold}
-use Rattle.ndp_options.specs.Run.{Steps, Last, As, Run}
+use Rattle.ndp_options.specs.Run.{Steps, Last, Ended, Run}
 use Rattle.ndp_options.specs.declared.Step.{Step}
 use Rattle.ndp_options.specs.declared.Step.the-variants.{Handed, End, Refused, Stopped}
 use Rattle.icmpv6_payload_slice.specs.declared.Icmpv6PayloadSlice.{Icmpv6PayloadSlice}
@@ -40,9 +40,9 @@ pub record WholePacket (packet : List ℕ) (message : Icmpv6PayloadSlice) : Type
   pub there : message .«options_at» ≤ length packet
   -- the options walk clean to the end
   pub clean : walk (optionsFrom message packet) .ending ≡ Clean
-  -- and their bytes, one after the other, are all that is behind the fixed part
-  pub all : concat (map (bytesIn (optionsFrom message packet)) (walk (optionsFrom message packet) .items)) ≡ optionsFrom message packet
-  -- whoever steps through them is handed an option or told the end at every place that he comes to
-  pub steps : (is : List Item) (at : ℕ) → Steps (optionsFrom message packet) 0 is at → (x : Step) → stepTold x ≡ stepOf (optionsFrom message packet) at → isWhole x ≡ true
+  -- and their bytes, each at its place in the packet, one after the other, are all that is behind the fixed part
+  pub all : concat (map (bytesIn packet) (walkFrom (message .«options_at») (optionsFrom message packet) .items)) ≡ optionsFrom message packet
+  -- whoever steps through them, at their place in the packet, is handed an option or told the end at every place that he comes to
+  pub steps : (is : List Item) (at : ℕ) → Steps (message .«options_at») (optionsFrom message packet) 0 is at → (x : Step) → stepTold x ≡ stepOf (message .«options_at») (optionsFrom message packet) at → isWhole x ≡ true
   -- and whoever goes on until a step hands out no option has been handed them all, and is told the end
-  pub run : (is : List Item) (l : Last) → Run (optionsFrom message packet) is l → (is ≡ walk (optionsFrom message packet) .items) × (l ≡ As Clean)
+  pub run : (is : List Item) (l : Last) → Run (message .«options_at») (optionsFrom message packet) is l → (is ≡ walkFrom (message .«options_at») (optionsFrom message packet) .items) × (l ≡ Ended)

@@ -78,13 +78,13 @@ fn option_reason(
     destination: &[u8; 16],
 ) -> u8
     requires { ⌜ (8 ≤ length (now packet)) × (message .«payload_at» ≡ 8) ⌝ }
+    requires { ⌜ (message .«options_at» ≤ length (now packet)) × (length (now packet) ≤ 4294967295) ⌝ }
     ensures { λ r. ⌜ r ≡ firstOf (optionReasons (payloadKindNumber (message .kind)) (drop (message .«options_at») (now (packet .entry))) (now (source .entry)) (now (destination .entry)) (now (packet .entry))) ⌝ }
 {
-    let start = Cursor {
-        at: message.options_at,
-    };
-    match has_type(start.rest(packet), NdpOptionType(1)) {
-        Occurs::Refused(_, _) => 5,
+    let at = message.options_at;
+    let start = Cursor { at };
+    match has_type(start.rest(packet), at, NdpOptionType(1)) {
+        Occurs::Refused(_) => 5,
         Occurs::Yes => own_reason(message, packet, source, destination, true),
         Occurs::No => own_reason(message, packet, source, destination, false),
     }

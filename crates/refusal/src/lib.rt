@@ -1,4 +1,4 @@
-// The refusals (docs/RULES.md N1 to N14), which every answer of the library shares.
+// The refusals (docs/RULES.md N1 to N14 and N22), which every answer of the library shares.
 ghost use mathlib.Core.Path.{_≡_};
 ghost use lib.ListN.{getD, length};
 ghost use Rattle.refusal.specs.Table.{number, values};
@@ -10,7 +10,7 @@ pub struct NdpOptionType(pub u8);
 // The length field of an option, in units of eight octets: never a number of bytes.
 pub struct LengthUnits(pub u8);
 
-// The variants stand in the order of the table: the first has number 1, the last 14.
+// The variants stand in the order of the table: 1 to 14, then 22. A place is that in the whole packet.
 pub enum Refusal {
     ShortPacket {
         least: usize,
@@ -32,20 +32,24 @@ pub enum Refusal {
         id: NdpOptionType,
         expected: usize,
         actual: usize,
+        place: usize,
     },
     ZeroLength {
         id: NdpOptionType,
+        place: usize,
     },
     UnexpectedEndOfSlice {
         id: NdpOptionType,
         expected: usize,
         actual: usize,
+        place: usize,
     },
     UnexpectedHeader {
         expected: NdpOptionType,
         actual: NdpOptionType,
         expected_units: LengthUnits,
         actual_units: LengthUnits,
+        place: usize,
     },
     ShortOutput {
         needed: usize,
@@ -66,13 +70,14 @@ pub enum Refusal {
     CaptureEnds {
         place: u64,
     },
+    FarOffset,
 }
 
 // A refusal as numbers: its number, how many values it carries, and the values, 0 past the last.
 pub struct Numbers {
     pub number: u8,
     pub count: usize,
-    pub values: [u64; 4],
+    pub values: [u64; 5],
 }
 
 impl Refusal {
@@ -83,90 +88,99 @@ impl Refusal {
             Refusal::ShortPacket { least, length } => Numbers {
                 number: 1,
                 count: 2,
-                values: [least as u64, length as u64, 0, 0],
+                values: [least as u64, length as u64, 0, 0, 0],
             },
             Refusal::LongPacket { limit, length } => Numbers {
                 number: 2,
                 count: 2,
-                values: [limit as u64, length as u64, 0, 0],
+                values: [limit as u64, length as u64, 0, 0, 0],
             },
             Refusal::LongPayload { limit, length } => Numbers {
                 number: 3,
                 count: 2,
-                values: [limit as u64, length as u64, 0, 0],
+                values: [limit as u64, length as u64, 0, 0, 0],
             },
             Refusal::ShortFixedPart { needed, present } => Numbers {
                 number: 4,
                 count: 2,
-                values: [needed as u64, present as u64, 0, 0],
+                values: [needed as u64, present as u64, 0, 0, 0],
             },
             Refusal::UnexpectedSize {
                 id,
                 expected,
                 actual,
+                place,
             } => Numbers {
                 number: 5,
-                count: 3,
-                values: [id.0 as u64, expected as u64, actual as u64, 0],
+                count: 4,
+                values: [id.0 as u64, expected as u64, actual as u64, place as u64, 0],
             },
-            Refusal::ZeroLength { id } => Numbers {
+            Refusal::ZeroLength { id, place } => Numbers {
                 number: 6,
-                count: 1,
-                values: [id.0 as u64, 0, 0, 0],
+                count: 2,
+                values: [id.0 as u64, place as u64, 0, 0, 0],
             },
             Refusal::UnexpectedEndOfSlice {
                 id,
                 expected,
                 actual,
+                place,
             } => Numbers {
                 number: 7,
-                count: 3,
-                values: [id.0 as u64, expected as u64, actual as u64, 0],
+                count: 4,
+                values: [id.0 as u64, expected as u64, actual as u64, place as u64, 0],
             },
             Refusal::UnexpectedHeader {
                 expected,
                 actual,
                 expected_units,
                 actual_units,
+                place,
             } => Numbers {
                 number: 8,
-                count: 4,
+                count: 5,
                 values: [
                     expected.0 as u64,
                     actual.0 as u64,
                     expected_units.0 as u64,
                     actual_units.0 as u64,
+                    place as u64,
                 ],
             },
             Refusal::ShortOutput { needed } => Numbers {
                 number: 9,
                 count: 1,
-                values: [needed as u64, 0, 0, 0],
+                values: [needed as u64, 0, 0, 0, 0],
             },
             Refusal::KnownPair { kind, code } => Numbers {
                 number: 10,
                 count: 2,
-                values: [kind as u64, code as u64, 0, 0],
+                values: [kind as u64, code as u64, 0, 0, 0],
             },
             Refusal::NotReceived { reason } => Numbers {
                 number: 11,
                 count: 1,
-                values: [reason as u64, 0, 0, 0],
+                values: [reason as u64, 0, 0, 0, 0],
             },
             Refusal::NoMark { place } => Numbers {
                 number: 12,
                 count: 1,
-                values: [place, 0, 0, 0],
+                values: [place, 0, 0, 0, 0],
             },
             Refusal::LongRecord { length } => Numbers {
                 number: 13,
                 count: 1,
-                values: [length as u64, 0, 0, 0],
+                values: [length as u64, 0, 0, 0, 0],
             },
             Refusal::CaptureEnds { place } => Numbers {
                 number: 14,
                 count: 1,
-                values: [place, 0, 0, 0],
+                values: [place, 0, 0, 0, 0],
+            },
+            Refusal::FarOffset => Numbers {
+                number: 22,
+                count: 0,
+                values: [0, 0, 0, 0, 0],
             },
         }
     }
@@ -193,6 +207,6 @@ impl Refusal {
     {
         let n = self.numbers();
         let values = n.values;
-        if i < 4 { values[i] } else { 0 }
+        if i < 5 { values[i] } else { 0 }
     }
 }

@@ -1,4 +1,4 @@
-// Whole lists of options.
+// Whole lists of options, at an offset.
 use crate::numbers;
 use crate::numbers::Told;
 use crate::numbers::tell;
@@ -6,21 +6,21 @@ use ndp_option_list::Counted;
 use ndp_option_list::Occurs;
 use refusal::NdpOptionType;
 
-pub(crate) fn counted(input: &[u8]) -> Told {
-    match ndp_option_list::count(input) {
+pub(crate) fn counted(input: &[u8], offset: usize) -> Told {
+    match ndp_option_list::count(input, offset) {
         Counted::All(n) => tell(2, 0, n as u64, 0, 0, 0, 0),
-        Counted::Refused(why, at) => numbers::refused_at(why, at),
+        Counted::Refused(why) => numbers::refused_from(why, offset),
     }
 }
 
 // The type that is looked for, then the options.
-pub(crate) fn has_type(input: &[u8]) -> Told {
+pub(crate) fn has_type(input: &[u8], offset: usize) -> Told {
     if input.len() == 0 {
         return numbers::nothing();
     }
-    match ndp_option_list::has_type(&input[1..], NdpOptionType(input[0])) {
+    match ndp_option_list::has_type(&input[1..], offset, NdpOptionType(input[0])) {
         Occurs::Yes => tell(2, 0, 1, 0, 0, 0, 0),
         Occurs::No => tell(2, 0, 0, 0, 0, 0, 0),
-        Occurs::Refused(why, at) => numbers::refused_at(why, at),
+        Occurs::Refused(why) => numbers::refused_from(why, offset),
     }
 }

@@ -35,22 +35,37 @@ pub(crate) fn refused(why: Refusal) -> Told {
         v[1],
         v[2],
         v[3],
-        0,
+        v[4],
     )
 }
 
-// A refusal of an option list, and its place.
-pub(crate) fn refused_at(why: Refusal, place: usize) -> Told {
-    let n = why.numbers();
-    let v = n.values;
-    let count = n.count;
-    if count == 1 {
-        return tell(3, n.number as u64, v[0], place as u64, 0, 0, 0);
+// A refusal of an option list at an offset: its place, which it carries last, is moved back to that in the bytes.
+pub(crate) fn refused_from(why: Refusal, offset: usize) -> Told {
+    let t = refused(why);
+    let mut values = t.values;
+    let last = why.count();
+    // Never beyond: a refusal carries no more than five numbers.
+    if last < 12 {
+        values[last] = std::num::wrapping_sub_u64(values[last], offset as u64);
     }
-    if count == 3 {
-        return tell(5, n.number as u64, v[0], v[1], v[2], place as u64, 0);
+    Told {
+        count: t.count,
+        values,
     }
-    // Never: a walk refuses 5, 6 and 7, which carry one number or three.
+}
+
+// The answer of a reader, which ends in its place: that must be the offset, and a vector has the numbers before it.
+pub(crate) fn before_place(t: Told, offset: usize) -> Told {
+    let values = t.values;
+    let last = std::num::wrapping_sub_usize(t.count, 1);
+    if last < 12 {
+        if values[last] == offset as u64 {
+            return Told {
+                count: last,
+                values,
+            };
+        }
+    }
     nothing()
 }
 

@@ -1,4 +1,4 @@
-// The readers of single options.
+// The readers of single options, at an offset. Their answers end in the place.
 use crate::numbers;
 use crate::numbers::Told;
 use crate::numbers::tell;
@@ -10,19 +10,27 @@ use ndp_option_read::NdpOptionRead;
 use prefix_information::PrefixInformation;
 use prefix_information::PrefixInformationRead;
 
-pub(crate) fn header_from_slice(input: &[u8]) -> Told {
-    match NdpOptionHeader::from_slice(input) {
-        HeaderRead::Header(h) => {
+pub(crate) fn header_from_slice(input: &[u8], offset: usize) -> Told {
+    match NdpOptionHeader::from_slice(input, offset) {
+        HeaderRead::Header(h, place) => {
             let rest = ndp_option_header::behind_header(input);
-            tell(
-                6,
-                0,
-                h.option_type.0 as u64,
-                h.length_units.0 as u64,
-                h.byte_len() as u64,
-                numbers::place_of(input, rest),
-                rest.len() as u64,
-            )
+            Told {
+                count: 7,
+                values: [
+                    0,
+                    h.option_type.0 as u64,
+                    h.length_units.0 as u64,
+                    h.byte_len() as u64,
+                    numbers::place_of(input, rest),
+                    rest.len() as u64,
+                    place as u64,
+                    0,
+                    0,
+                    0,
+                    0,
+                    0,
+                ],
+            }
         }
         HeaderRead::Refused(why) => numbers::refused(why),
     }
@@ -45,10 +53,10 @@ pub(crate) fn header_bytes(input: &[u8]) -> Told {
     )
 }
 
-fn information_told(p: PrefixInformation) -> Told {
+fn information_told(p: PrefixInformation, place: usize) -> Told {
     let b = p.prefix;
     Told {
-        count: 10,
+        count: 11,
         values: [
             0,
             p.prefix_length as u64,
@@ -60,7 +68,7 @@ fn information_told(p: PrefixInformation) -> Told {
             numbers::long(b[4], b[5], b[6], b[7]),
             numbers::long(b[8], b[9], b[10], b[11]),
             numbers::long(b[12], b[13], b[14], b[15]),
-            0,
+            place as u64,
             0,
         ],
     }
@@ -70,12 +78,12 @@ fn prefix_told(read: PrefixInformationRead) -> Told {
     let answer = read.answer;
     match answer {
         NdpOptionRead::Refused(why) => numbers::refused(why),
-        NdpOptionRead::Accepted => information_told(read.information),
+        NdpOptionRead::Accepted(place) => information_told(read.information, place),
     }
 }
 
-pub(crate) fn prefix_from_slice(input: &[u8]) -> Told {
-    prefix_told(PrefixInformation::from_slice(input))
+pub(crate) fn prefix_from_slice(input: &[u8], offset: usize) -> Told {
+    prefix_told(PrefixInformation::from_slice(input, offset))
 }
 
 // The bytes of a slice from a place on, and 0 past its end.
@@ -93,8 +101,8 @@ fn byte_at(s: &[u8], i: usize) -> u8 {
     if i < s.len() { s[i] } else { 0 }
 }
 
-pub(crate) fn prefix_from_bytes(input: &[u8]) -> Told {
-    prefix_told(PrefixInformation::from_bytes(bytes_from(input, 0)))
+pub(crate) fn prefix_from_bytes(input: &[u8], offset: usize) -> Told {
+    prefix_told(PrefixInformation::from_bytes(bytes_from(input, 0), offset))
 }
 
 // Prefix length, both flags, both lifetimes, the prefix: 27 bytes.
@@ -151,24 +159,24 @@ pub(crate) fn prefix_to_bytes(input: &[u8]) -> Told {
     }
 }
 
-pub(crate) fn mtu(input: &[u8]) -> Told {
-    match MtuOption::from_slice(input) {
-        MtuOption::Mtu(mtu) => tell(3, 0, 5, mtu as u64, 0, 0, 0),
+pub(crate) fn mtu(input: &[u8], offset: usize) -> Told {
+    match MtuOption::from_slice(input, offset) {
+        MtuOption::Mtu(mtu, place) => tell(4, 0, 5, mtu as u64, place as u64, 0, 0),
         MtuOption::Refused(why) => numbers::refused(why),
     }
 }
 
-pub(crate) fn redirected_header(input: &[u8]) -> Told {
-    match redirected_header_option::from_slice(input) {
-        NdpOptionRead::Accepted => {
+pub(crate) fn redirected_header(input: &[u8], offset: usize) -> Told {
+    match redirected_header_option::from_slice(input, offset) {
+        NdpOptionRead::Accepted(place) => {
             let packet = redirected_header_option::redirected_packet(input);
             tell(
-                4,
+                5,
                 0,
                 4,
                 numbers::place_of(input, packet),
                 packet.len() as u64,
-                0,
+                place as u64,
                 0,
             )
         }

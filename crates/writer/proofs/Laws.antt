@@ -20,9 +20,8 @@ use Rattle.icmpv6_payload_slice.specs.declared.Icmpv6PayloadSlice.{Icmpv6Payloa
 use Rattle.icmpv6_payload_slice.specs.declared.PayloadRead.the-variants.{Payload}
 use Rattle.icmpv6_payload_slice.specs.Dispatch.{payloadTold, byValue}
 use Rattle.icmpv6_payload_slice.proofs.Opened.{placed}
-use Rattle.ndp_walk.specs.Step.{told}
 use Rattle.ndp_option_list.specs.Whole.{countOf}
-use Rattle.writer.specs.Write.{_orElse_, payloadOptions, sendableOf, writeOf}
+use Rattle.writer.specs.Write.{_orElse_, payloadOptions, optionsPlace, sendableOf, writeOf}
 use Rattle.output.specs.Output.{leaves}
 use Rattle.output.proofs.Fitting.{fits as there-is-room, narrow as no-room}
 
@@ -41,7 +40,7 @@ module _ (t : Icmpv6Type) (s : List ℕ) where
     long h = rw (named, lt-ltb 65527 (length s) h)
 
     module _ (some : length s ≤ 65527) where
-      pub rest : sendableOf t s ≡ (byValue t s orElse (countOf (payloadOptions t s) .paper orElse gives []))
+      pub rest : sendableOf t s ≡ (byValue t s orElse (countOf (optionsPlace t s) (payloadOptions t s) orElse gives []))
       unfolding sendableOf
       rest = rw (named, le-ltb 65527 (length s) some)
 
@@ -51,22 +50,29 @@ module _ (t : Icmpv6Type) (s : List ℕ) where
 
       -- the fixed part is there: the walk of the options decides
       module _ (m : Icmpv6PayloadSlice) (given : payloadTold (Payload m) ≡ byValue t s) (n : ℕ) where
-        pub no-clean-walk : (why : Refusal) → told (refusal why) n ≡ countOf (payloadOptions t s) → sendableOf t s ≡ refusal why
+        pub no-clean-walk : (why : Refusal) → refusal why ≡ countOf (optionsPlace t s) (payloadOptions t s) → sendableOf t s ≡ refusal why
         no-clean-walk why e = rest ∙ rw (← given, ← e) (refused-first why _)
 
-        pub clean : told (gives (n ∷ [])) 0 ≡ countOf (payloadOptions t s) → sendableOf t s ≡ gives []
+        pub clean : gives (n ∷ []) ≡ countOf (optionsPlace t s) (payloadOptions t s) → sendableOf t s ≡ gives []
         clean e = rest ∙ rw (← given, ← e)
 
   -- what was dispatched says where the options are
-  pub dispatched : (m : Icmpv6PayloadSlice) → payloadTold (Payload m) ≡ byValue t s → drop (m .«options_at») s ≡ payloadOptions t s
-  dispatched m e = ap (λ (i : ℕ). drop i s) (placed 0 (kindNumber t) (length s) {m = m} (omega arith) e .options)
+  pub record Dispatched (m : Icmpv6PayloadSlice) : Type 0 where
+    pub within : m .«options_at» ≤ length s
+    pub options : drop (m .«options_at») s ≡ payloadOptions t s
+    pub place : 8 + m .«options_at» ≡ optionsPlace t s
+
+  pub dispatched : (m : Icmpv6PayloadSlice) → payloadTold (Payload m) ≡ byValue t s → Dispatched m
+  dispatched m e =
+      let h = placed 0 (kindNumber t) (length s) {m = m} (omega arith) e in
+      record { within = h .within; options = ap (λ (i : ℕ). drop i s) (h .options); place = ap (λ (i : ℕ). 8 + i) (h .options) }
 
   -- what passed every test is within the limit
   pub within : gives [] ≡ sendableOf t s → length s ≤ 65527
   unfolding sendableOf
   within = by (misnamed t) (ltb 65527 (length s)) refl
     where
-      by : (a b : Bool) → ltb 65527 (length s) ≡ b → gives [] ≡ cond a (refuses 10 (typeNumber t ∷ codeNumber t ∷ [])) (cond b (refuses 3 (65527 ∷ length s ∷ [])) (byValue t s orElse (countOf (payloadOptions t s) .paper orElse gives []))) → length s ≤ 65527
+      by : (a b : Bool) → ltb 65527 (length s) ≡ b → gives [] ≡ cond a (refuses 10 (typeNumber t ∷ codeNumber t ∷ [])) (cond b (refuses 3 (65527 ∷ length s ∷ [])) (byValue t s orElse (countOf (optionsPlace t s) (payloadOptions t s) orElse gives []))) → length s ≤ 65527
       by true b f q = absurd (let z : _≡_ {A = ℕ} 0 10 = ap (λ (p : Paper). p .number) q in omega arith)
       by false true f q = absurd (let z : _≡_ {A = ℕ} 0 3 = ap (λ (p : Paper). p .number) q in omega arith)
       by false false f q = ltb-false 65527 (length s) f

@@ -2,5 +2,6 @@ pub mod Laws
 pub mod Sealed
 pub mod Sent
 pub mod Accepted
+pub mod Never
 pub mod Cases
 pub mod Unique

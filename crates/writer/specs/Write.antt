@@ -14,7 +14,7 @@ use Rattle.icmpv6_type.specs.Reserved.{misnamed}
 use Rattle.icmpv6.specs.Head.{encodeOf}
 use Rattle.checksum.specs.Icmpv6.{checksumOf}
 use Rattle.icmpv6_checksum.specs.Header.{headOf}
-use Rattle.icmpv6_payload_slice.specs.Dispatch.{optionsIn, byValue}
+use Rattle.icmpv6_payload_slice.specs.Dispatch.{optionsAt, optionsIn, byValue}
 use Rattle.ndp_option_list.specs.Whole.{countOf}
 use Rattle.output.specs.declared.Written.{Written}
 use Rattle.output.specs.declared.Written.the-variants as output
@@ -31,12 +31,16 @@ a orElse b = cond (eqb (a .number) 0) b a
 abbrev pub payloadOptions : Icmpv6Type → List ℕ → List ℕ
 payloadOptions t payload = optionsIn 0 (kindNumber t) payload
 
+-- their place in the packet, whose head stands before the payload
+abbrev pub optionsPlace : Icmpv6Type → List ℕ → ℕ
+optionsPlace t payload = 8 + optionsAt 0 (kindNumber t) (length payload)
+
 -- refusals 10 and 3, the dispatch's 4, the walk's 5 to 7
 unfoldable pub sendableOf : Icmpv6Type → List ℕ → Paper
 sendableOf t payload =
     cond (misnamed t) (refuses 10 (typeNumber t ∷ codeNumber t ∷ []))
     (cond (ltb 65527 (length payload)) (refuses 3 (65527 ∷ length payload ∷ []))
-    (byValue t payload orElse (countOf (payloadOptions t payload) .paper orElse gives [])))
+    (byValue t payload orElse (countOf (optionsPlace t payload) (payloadOptions t payload) orElse gives [])))
 
 -- and 9, or the length
 abbrev pub writeOf : Icmpv6Type → List ℕ → List ℕ → Paper

@@ -57,9 +57,11 @@ fn check(icmp_type: Icmpv6Type, payload: &[u8]) -> Sendable
             let start = Cursor {
                 at: part.options_at,
             };
-            match ndp_option_list::count(start.rest(payload)) {
+            // Their place in the packet: behind the head too.
+            let place = 8 + part.options_at;
+            match ndp_option_list::count(start.rest(payload), place) {
                 Counted::All(_) => Sendable::Yes,
-                Counted::Refused(why, _) => Sendable::Refused(why),
+                Counted::Refused(why) => Sendable::Refused(why),
             }
         }
     }

@@ -1,7 +1,7 @@
 -- `fields_of` meets its contract: in each arm the type is known and what it keeps computes; the other types keep nothing.
 -- Assumes nothing.
+use Rattle.c_decode.specs.Head.{fields}
 use Rattle.c_decode.proofs.Laws.{keeps-none}
-use Rattle.refusal.specs.Paper.{slots}
 use Rattle.icmpv6.specs.Head.{fieldsAt}
 use Rattle.icmpv6_headers.specs.Headers.{echoOf, routerOf, neighborOf}
 use mathlib.Core.Path.{ap, _∙_}
@@ -94,16 +94,16 @@ returns-2 : tie.Need-returns-2
 returns-2 c = rw (c .word-of2 .ensures, c .before .match .keys2)
 
 returns-3 : tie.Need-returns-3
-returns-3 c = rw (c .before .before .before .before .match .keys3) (ap slots (c .before .before .from-bytes .ensures ∙ ap echoOf (c .before .before .before .rest-of .ensures)))
+returns-3 c = rw (c .before .before .before .before .match .keys3) (ap fields (c .before .before .from-bytes .ensures ∙ ap echoOf (c .before .before .before .rest-of .ensures)))
 
 returns-4 : tie.Need-returns-4
-returns-4 c = rw (c .before .before .before .before .match .keys4) (ap slots (c .before .before .from-bytes2 .ensures ∙ ap echoOf (c .before .before .before .rest-of2 .ensures)))
+returns-4 c = rw (c .before .before .before .before .match .keys4) (ap fields (c .before .before .from-bytes2 .ensures ∙ ap echoOf (c .before .before .before .rest-of2 .ensures)))
 
 returns-5 : tie.Need-returns-5
-returns-5 c = rw (c .before .flag-of2 .ensures, c .before .before .flag-of .ensures, c .before .before .before .before .before .before .match .keys5) (ap slots (c .before .before .before .before .from-bytes3 .ensures ∙ ap routerOf (c .before .before .before .before .before .rest-of3 .ensures)))
+returns-5 c = rw (c .before .flag-of2 .ensures, c .before .before .flag-of .ensures, c .before .before .before .before .before .before .match .keys5) (ap fields (c .before .before .before .before .from-bytes3 .ensures ∙ ap routerOf (c .before .before .before .before .before .rest-of3 .ensures)))
 
 returns-6 : tie.Need-returns-6
-returns-6 c = rw (c .flag-of5 .ensures, c .before .flag-of4 .ensures, c .before .before .flag-of3 .ensures, c .before .before .before .before .before .match .keys6) (ap slots (c .before .before .before .from-bytes4 .ensures ∙ ap neighborOf (c .before .before .before .before .rest-of4 .ensures)))
+returns-6 c = rw (c .flag-of5 .ensures, c .before .flag-of4 .ensures, c .before .before .flag-of3 .ensures, c .before .before .before .before .before .match .keys6) (ap fields (c .before .before .before .from-bytes4 .ensures ∙ ap neighborOf (c .before .before .before .before .rest-of4 .ensures)))
 
 returns-7 : tie.Need-returns-7
 returns-7 c = let r = c .match .rest in let a = c .before .before .args in keeps-none (a .kind) (fieldsAt (a .packet .now)) (r .0 .0 .0 .0 .0 .1) (r .0 .0 .0 .0 .1) (r .0 .0 .0 .1) (r .0 .0 .1) (r .0 .1) (r .1)

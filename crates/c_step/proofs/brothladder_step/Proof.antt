@@ -15,14 +15,22 @@ enum-known-option c = search needs
 kind-number-requires : tie.Need-kind-number-requires
 kind-number-requires c κs = search needs
 
-cast-t15 : tie.Need-cast-t15
-cast-t15 c = search needs
+cast-t16 : tie.Need-cast-t16
+cast-t16 c = search needs
+
+returns : tie.Need-returns
+unfolding steppedFor
+returns c = rw (c .before .kind-number .ensures, ← (c .before .before .before .before .before .before .step .ensures), c .before .before .before .before .option .given .1)
 
 enum-told : tie.Need-enum-told
 enum-told c = search needs
 
 bare-requires : tie.Need-bare-requires
 bare-requires c κs = search needs
+
+returns-2 : tie.Need-returns-2
+unfolding steppedFor
+returns-2 c = rw (c .bare .ensures, ← (c .before .before .before .step .ensures), c .before .enum-told .given .1)
 
 enum-known-why : tie.Need-enum-known-why
 enum-known-why c = search needs
@@ -36,23 +44,15 @@ cast-bare c = search needs
 bare-requires-2 : tie.Need-bare-requires-2
 bare-requires-2 c κs = search needs
 
+returns-3 : tie.Need-returns-3
+unfolding steppedFor
+returns-3 c = rw (c .bare2 .ensures, c .before .before .before .numbers .ensures, ← (c .before .before .before .before .before .before .before .step .ensures), c .before .before .before .before .before .why .given .1, refusal-numbered)
+
 enum-told-2 : tie.Need-enum-told-2
 enum-told-2 c = search needs
 
 bare-requires-3 : tie.Need-bare-requires-3
 bare-requires-3 c κs = search needs
-
-returns : tie.Need-returns
-unfolding steppedFor
-returns c = rw (c .before .kind-number .ensures, ← (c .before .before .before .before .before .before .step .ensures), c .before .before .before .before .option .given .1)
-
-returns-2 : tie.Need-returns-2
-unfolding steppedFor
-returns-2 c = rw (c .bare .ensures, ← (c .before .before .before .step .ensures), c .before .enum-told .given .1)
-
-returns-3 : tie.Need-returns-3
-unfolding steppedFor
-returns-3 c = rw (c .bare2 .ensures, c .before .before .before .numbers .ensures, ← (c .before .before .before .before .before .before .before .step .ensures), c .before .before .before .before .before .why .given .1, refusal-numbered)
 
 returns-4 : tie.Need-returns-4
 unfolding steppedFor
@@ -65,7 +65,7 @@ brothladder-step-spec =
     step-requires
     enum-known-option
     kind-number-requires
-    cast-t15
+    cast-t16
     returns
     enum-told
     bare-requires

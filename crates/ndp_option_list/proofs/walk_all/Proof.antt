@@ -1,29 +1,32 @@
 -- `walk_all` meets its contract. The invariant: the cursor is within the bytes, no more options are counted than bytes passed, and the whole walk comes to
 -- what was found and what the walk from the cursor comes to. The measure is what is left of the bytes.
 -- Assumes nothing.
-use Rattle.ndp_options.proofs.Steps.{handed-on, ended-at, refused-at, not-stopped}
-use Rattle.ndp_options.specs.Told.{itemTold}
-use Rattle.ndp_options.specs.Walk.{walkFrom}
-use Rattle.ndp_option_list.specs.Whole.{endBy, occurs, tallyOf}
-use Rattle.ndp_options.specs.Rule.{rule}
-use Rattle.ndp_walk.proofs.Steps.{Onward}
-use Rattle.ndp_walk.specs.Step.{Told}
-use Rattle.ndp_walk.specs.Walk.{Item, Walk, then}
-use Rattle.paper.specs.Paper.{gives, oneIf}
-use borrow.Author.Needs.{needs}
-use lib.ListN.{length, drop}
-use lib.Dec.{eqb}
-use mathlib.Core.List.{[], _∷_}
+use Prim.Native.Nat.{ℕ, _+_, _-_, _≤_}
+use mathlib.Core.Path.{_≡_, _∙_, sym, ap}
+use mathlib.Core.List.{List, [], _∷_}
 use mathlib.Core.Bool.{Bool, true, false, cond}
 use native.Mathlib.Omega.{arith}
 use native.Mathlib.Nat.{add-zero, zero-add}
-use Prim.Native.Nat.{ℕ, _+_, _-_, _≤_}
-use mathlib.Core.Path.{_≡_, refl, _∙_, sym, ap}
+use lib.ListN.{length, drop}
+use lib.Dec.{eqb}
+use Rattle.paper.specs.Paper.{Paper, gives, oneIf}
+use Rattle.packet_length.specs.Length.{limit}
+use Rattle.packet_place.specs.Place.{isFar, far}
+use Rattle.packet_place.proofs.Laws.{near, beyond}
+use Rattle.ndp_walk.specs.Walk.{Item, Walk, then, clean, shiftItem}
+use Rattle.ndp_walk.specs.Placed.{endBy}
+use Rattle.ndp_walk.proofs.Steps.{Onward, Refusing, far-on, there}
+use Rattle.ndp_options.specs.Rule.{rule}
+use Rattle.ndp_options.specs.Walk.{walkFrom}
+use Rattle.ndp_options.specs.Told.{itemTold}
+use Rattle.ndp_options.proofs.Steps.{handed-on, ended-at, refused-at, not-stopped}
+use Rattle.ndp_option_list.specs.Whole.{wholeOf, occurs, tallyOf}
+use borrow.Author.Needs.{needs}
 use Rattle.ndp_option_list.proofs.walk_all.Statement.{statement}
 use Rattle.ndp_option_list.proofs.walk_all.Tie as tie
 
 -- what was found, and what a walk comes to
-abbrev more : ℕ → ℕ → Bool → Walk → Told
+abbrev more : ℕ → ℕ → Bool → Walk → Paper
 more wanted n found w = endBy (w .ending) (gives ((n + length (w .items)) ∷ oneIf (cond found true (occurs wanted (w .items))) ∷ []))
 
 -- one option more
@@ -33,26 +36,49 @@ turn wanted n true i w = ap (λ (k : ℕ). endBy (w .ending) (gives (k ∷ 1 ∷
 turn wanted n false i w = ap (λ (k : ℕ). endBy (w .ending) (gives (k ∷ oneIf (occurs wanted (i ∷ w .items)) ∷ []))) (omega arith)
 
 -- no more
-over : (found : Bool) → oneIf (cond found true false) ≡ oneIf found
-over true = refl
-over false = refl
+over : (wanted n : ℕ) (found : Bool) → more wanted n found clean ≡ gives (n ∷ oneIf found ∷ [])
+unfolding occurs
+over wanted n true = ap (λ (k : ℕ). gives (k ∷ 1 ∷ [])) (add-zero n)
+over wanted n false = ap (λ (k : ℕ). gives (k ∷ 0 ∷ [])) (add-zero n)
+
+-- the same of bytes at an offset: 22 if they are too far on
+abbrev from : ℕ → List ℕ → ℕ → ℕ → ℕ → Bool → Paper
+from o s at wanted n found = cond (isFar o (length s)) far (more wanted n found (walkFrom (o + at) (drop at s)))
+
+-- at the first byte nothing was found
+start : (o : ℕ) (s : List ℕ) (wanted : ℕ) → tallyOf wanted o s ≡ from o s 0 wanted 0 false
+unfolding wholeOf
+start o s wanted = rw (add-zero o, zero-add (length (walkFrom o s .items)))
+
+ends : (o : ℕ) (s : List ℕ) (at wanted n : ℕ) (found : Bool) → o + length s ≤ limit → walkFrom (o + at) (drop at s) ≡ clean → from o s at wanted n found ≡ gives (n ∷ oneIf found ∷ [])
+ends o s at wanted n found h w = rw (near o (length s) h, w) (over wanted n found)
+
+stops : (o : ℕ) (s : List ℕ) (at wanted n : ℕ) (found : Bool) {why : Paper} → Refusing rule o s at why → from o s at wanted n found ≡ why
+stops o s at wanted n found (far-on f) = rw (beyond o (length s) f)
+stops o s at wanted n found (there h reason w) = rw (near o (length s) h, w)
+
+goes-on : (o : ℕ) (s : List ℕ) (at wanted n : ℕ) (found : Bool) {i : Item} {place next : ℕ} → Onward rule o s at i place next → from o s at wanted n found ≡ from o s next wanted (n + 1) (cond found true (eqb (i .type) wanted))
+goes-on o s at wanted n found {i} {place} {next} h = rw (near o (length s) (h .near), h .walk) (turn wanted n found (shiftItem o i) (walkFrom (o + next) (drop next s)))
 
 abbrev Inv-loop : tie.InvT-loop
-Inv-loop options wanted c₀ n₀ found₀ last₀ c n found last =
-    (c .at ≤ length options) × (n ≤ c .at) × (tallyOf (wanted .0) options ≡ more (wanted .0) n found (walkFrom (c .at) (drop (c .at) options)))
+Inv-loop options offset wanted c₀ n₀ found₀ c n found =
+    (c .at ≤ length options) × (n ≤ c .at) × (tallyOf (wanted .0) offset options ≡ from offset options (c .at) (wanted .0) n found)
 
 abbrev μ-loop : tie.MeasureT-loop
-μ-loop options wanted c₀ n₀ found₀ last₀ c n found last = length options - c .at
+μ-loop options offset wanted c₀ n₀ found₀ c n found = length options - c .at
 
 -- the turn that hands out an option
-onward : (c : tie.After-option Inv-loop μ-loop) → Onward rule (c .before .before .before .before .before .before .args .options .now) (c .before .before .before .loop .c .at) (itemTold (c .option .given .0 .0)) (c .option .given .0 .1 .0 .at)
-onward c = handed-on _ _ (c .before .before .before .loop .inv .0) (c .before .before .step .ensures) (c .option .given .1)
+onward : (c : tie.After-option Inv-loop μ-loop) →
+    let a = c .before .before .before .before .before .before .args in
+    let x = c .option .given .0 .0 in
+    Onward rule (a .offset) (a .options .now) (c .before .before .before .loop .c .at) (itemTold x) (x .place) (c .option .given .0 .1 .0 .at)
+onward c = handed-on _ _ _ (c .before .before .before .loop .inv .0) (c .before .before .step .ensures) (c .option .given .1)
 
 new-requires : tie.Need-new-requires Inv-loop μ-loop
 new-requires c κs = search needs
 
 loop-holds : tie.Need-loop-holds Inv-loop μ-loop
-loop-holds c = rw (c .new .ensures) (omega arith, omega arith, rw (zero-add _))
+loop-holds c = let a = c .before .before .args in rw (c .new .ensures) (omega arith, omega arith, start (a .offset) (a .options .now) (a .wanted .0))
 
 step-requires : tie.Need-step-requires Inv-loop μ-loop
 step-requires c κs = search needs
@@ -67,38 +93,45 @@ found-by-requires : tie.Need-found-by-requires Inv-loop μ-loop
 found-by-requires c κs = search needs
 
 loop-less : tie.Need-loop-less Inv-loop μ-loop
-loop-less c = let o = onward (c .before .before .before) in omega arith
+loop-less c = let o = onward (c .before .before) in omega arith
 
 loop-again : tie.Need-loop-again Inv-loop μ-loop
 loop-again c =
-    let arm = c .before .before .before in
+    let arm = c .before .before in
     let at = arm .before .before .before in
     let a = at .before .before .before .args in
-    let o = onward arm in
-    let next = arm .option .given .0 .1 .0 .at in (
+    let o = onward arm in (
       o .inside,
       omega arith,
-      at .loop .inv .2 ∙ rw (o .walk, c .found-by .ensures) (turn (a .wanted .0) (at .loop .n) (at .loop .found) (itemTold (arm .option .given .0 .0)) (walkFrom next (drop next (a .options .now)))),
+      at .loop .inv .2 ∙ rw (c .found-by .ensures) (goes-on (a .offset) (a .options .now) (at .loop .c .at) (a .wanted .0) (at .loop .n) (at .loop .found) o),
     )
 
 enum-told : tie.Need-enum-told Inv-loop μ-loop
 enum-told c = search needs
 
 returns : tie.Need-returns Inv-loop μ-loop
-unfolding occurs
-returns c = let inv = c .before .before .before .loop .inv in sym (inv .2 ∙ rw (ended-at _ _ (inv .0) (c .before .before .step .ensures) (c .enum-told .given .1) .1) (rw (add-zero _, over (c .before .before .before .loop .found))))
+returns c =
+    let at = c .before .before .before in
+    let inv = at .loop .inv in
+    let a = at .before .before .before .args in
+    let end = ended-at _ _ _ (inv .0) (c .before .before .step .ensures) (c .enum-told .given .1) in
+    sym (inv .2 ∙ ends (a .offset) (a .options .now) (at .loop .c .at) (a .wanted .0) (at .loop .n) (at .loop .found) (end .0) (end .2))
 
 enum-known-why : tie.Need-enum-known-why Inv-loop μ-loop
 enum-known-why c = search needs
 
 returns-2 : tie.Need-returns-2 Inv-loop μ-loop
-returns-2 c = let inv = c .before .before .before .before .loop .inv in sym (inv .2 ∙ rw (refused-at _ _ (inv .0) (c .before .before .before .step .ensures) (c .before .why .given .1) .1))
+returns-2 c =
+    let at = c .before .before .before .before in
+    let a = at .before .before .before .args in
+    let inv = at .loop .inv in
+    sym (inv .2 ∙ stops (a .offset) (a .options .now) (at .loop .c .at) (a .wanted .0) (at .loop .n) (at .loop .found) (refused-at _ _ _ (inv .0) (c .before .before .before .step .ensures) (c .before .why .given .1) .1))
 
 enum-told-2 : tie.Need-enum-told-2 Inv-loop μ-loop
 enum-told-2 c = search needs
 
 returns-3 : tie.Need-returns-3 Inv-loop μ-loop
-returns-3 c = let inv = c .before .before .before .loop .inv in absurd (not-stopped _ _ (inv .0) (c .before .before .step .ensures) (c .enum-told2 .given .1))
+returns-3 c = let inv = c .before .before .before .loop .inv in absurd (not-stopped _ _ _ (inv .0) (c .before .before .step .ensures) (c .enum-told2 .given .1))
 
 pub walk-all-spec : {M : Type 1} → statement M
 walk-all-spec =

@@ -1,52 +1,22 @@
--- `sized` meets its contract: at each `return` the tests that led there say which line of `sizedOf` holds.
+-- `sized` meets its contract: bytes too far on, or what the rule says, with the offset for its place.
 -- Assumes nothing.
-use Rattle.ndp_option_read.proofs.Rules.{first, second}
-use Rattle.ndp_option_read.specs.Rule.{sizedOf}
-use mathlib.Core.Path.{sym}
-use borrow.Author.Tests.{lt-ltb, le-ltb, eq-eqb, ne-eqb}
+use mathlib.Core.Path.{sym, _∙_}
+use Rattle.packet_place.proofs.Laws.{placed-near, placed-far}
 use borrow.Author.Needs.{needs}
 use Rattle.ndp_option_read.proofs.sized.Statement.{statement}
 use Rattle.ndp_option_read.proofs.sized.Tie as tie
 
-returns : tie.Need-returns
-unfolding sizedOf
-returns c = simp (lt-ltb _ _ (c .if1 .taken))
+is-far-requires : tie.Need-is-far-requires
+is-far-requires c κs = search needs
 
-header-at-requires : tie.Need-header-at-requires
-header-at-requires c κs = search needs
+returns : tie.Need-returns
+returns c = sym (placed-far _ _ _ (sym (c .before .is-far .ensures) ∙ c .if1 .taken))
+
+sized-at-requires : tie.Need-sized-at-requires
+sized-at-requires c κs = search needs
 
 returns-2 : tie.Need-returns-2
-unfolding sizedOf
-returns-2 c =
-    let h = c .before .before .before .before .before in
-    let e = h .header-at .ensures in
-    simp (le-ltb _ _ (h .before .if1 .left), first _ e, second _ e, ne-eqb _ _ (c .if2 .taken))
-
-returns-3 : tie.Need-returns-3
-unfolding sizedOf
-returns-3 c =
-    let h = c .before .before .before .before .before .before .before in
-    let e = h .header-at .ensures in
-    simp (le-ltb _ _ (h .before .if1 .left), first _ e, second _ e, eq-eqb _ _ (c .before .before .if2 .left), eq-eqb _ _ (c .if3 .taken))
-
-byte-len-requires : tie.Need-byte-len-requires
-byte-len-requires c κs = search needs
-
-returns-4 : tie.Need-returns-4
-unfolding sizedOf
-returns-4 c =
-    let h = c .before .before .before .before .before .before .before .before .before in
-    let e = h .header-at .ensures in
-    simp (le-ltb _ _ (h .before .if1 .left), first _ e, second _ e, eq-eqb _ _ (c .before .before .before .before .if2 .left), ne-eqb _ _ (c .before .before .if3 .left), sym (c .before .byte-len .ensures), ne-eqb _ _ (c .if4 .taken))
-
-returns-5 : tie.Need-returns-5
-unfolding sizedOf
-returns-5 c =
-    let h = c .before .before .before .before .before .before .before .before .before in
-    let e = h .header-at .ensures in
-    simp (le-ltb _ _ (h .before .if1 .left), first _ e, second _ e, eq-eqb _ _ (c .before .before .before .before .if2 .left), ne-eqb _ _ (c .before .before .if3 .left), sym (c .before .byte-len .ensures), eq-eqb _ _ (c .if4 .left))
+returns-2 c = c .sized-at .ensures ∙ sym (placed-near _ _ _ (sym (c .before .before .is-far .ensures) ∙ c .before .if1 .left))
 
 pub sized-spec : {M : Type 1} → statement M
-sized-spec =
-    tie.close
-    (tie.spec returns header-at-requires returns-2 returns-3 byte-len-requires returns-4 returns-5)
+sized-spec = tie.close (tie.spec is-far-requires returns sized-at-requires returns-2)

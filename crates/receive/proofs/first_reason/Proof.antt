@@ -1,6 +1,6 @@
 -- `first_reason` meets its contract: each return is the first reason whose test did not pass, and the dispatch says where the options are.
 -- Assumes nothing.
-use Prim.Native.Nat.{ℕ, _≤_}
+use Prim.Native.Nat.{ℕ}
 use mathlib.Core.Path.{_≡_, sym, ap, _∙_}
 use mathlib.Core.Bool.{true, false, cond}
 use native.Mathlib.Omega.{arith}
@@ -96,7 +96,8 @@ handed c =
 option-reason-requires : tie.Need-option-reason-requires
 option-reason-requires c κs =
     let o = handed c in
-    (start (c .before .before .before) .pre .0 .0, o .payload)
+    let pre = start (c .before .before .before) .pre .0 in
+    ((pre .0, o .payload), (o .within, pre .1))
 
 returns-6 : tie.Need-returns-6
 returns-6 c =

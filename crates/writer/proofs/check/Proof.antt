@@ -1,16 +1,20 @@
 -- `check` meets its contract: each test is the definition's, in its order, and each answer of a callee is a case of it.
 -- Assumes nothing.
+use Prim.Native.Nat.{ℕ}
+use mathlib.Core.List.{List}
 use mathlib.Core.Path.{_≡_, sym, ap, _∙_}
-use lib.ListN.{drop}
-use Rattle.writer.specs.Write.{payloadOptions}
+use native.Mathlib.Omega.{arith}
 use denote.Ref.{now}
 use Rattle.ndp_option_list.specs.Whole.{countOf}
 use Rattle.ndp_option_list.specs.Told.{countTold}
 use Rattle.icmpv6_payload_slice.specs.Dispatch.{payloadTold}
-use Rattle.writer.proofs.Laws.{known-pair, long, no-fixed-part, no-clean-walk, clean, dispatched}
+use Rattle.writer.proofs.Laws.{known-pair, long, no-fixed-part, no-clean-walk, clean, Dispatched, dispatched}
 use borrow.Author.Needs.{needs}
 use Rattle.writer.proofs.check.Statement.{statement}
 use Rattle.writer.proofs.check.Tie as tie
+
+same-count : {o o′ : ℕ} {s s′ : List ℕ} → o ≡ o′ → s ≡ s′ → countOf o s ≡ countOf o′ s′
+same-count p q = rw (p, q)
 
 names-known-pair-requires : tie.Need-names-known-pair-requires
 names-known-pair-requires c κs = search needs
@@ -43,13 +47,16 @@ enum-known-part c = search needs
 -- which bytes the options are
 there : (c : tie.After-part) →
     let a = c .before .before .before .before .before .before .before .args in
-    drop (c .part .given .0 .0 .«options_at») (now (a .payload)) ≡ payloadOptions (a .icmp-type) (now (a .payload))
+    Dispatched (a .icmp-type) (now (a .payload)) (c .part .given .0 .0)
 there c =
     let a = c .before .before .before .before .before .before .before .args in
     dispatched (a .icmp-type) (now (a .payload)) (c .part .given .0 .0) (ap payloadTold (sym (c .part .given .1)) ∙ c .before .before .from-slice .ensures)
 
 rest-requires : tie.Need-rest-requires
 rest-requires c κs = search needs
+
+add-place : tie.Need-add-place
+add-place c = let d = there (c .before .before) .within in omega arith
 
 count-requires : tie.Need-count-requires
 count-requires c κs = search needs
@@ -68,25 +75,25 @@ returns-3 c = let f = c .before .before .before in
 
 returns-4 : tie.Need-returns-4
 returns-4 c = let k = c .before .before in
-    let p = k .before .before .before in
+    let p = k .before .before .before .before in
     let f = p .before .before in
     let n = f .before .before .before in
     let a = n .before .before .args in
     let m = p .part .given .0 .0 in
     let given = ap payloadTold (sym (p .part .given .1)) ∙ f .from-slice .ensures in
-    let walked = k .count .ensures ∙ ap countOf (k .before .rest .ensures ∙ there p) in
+    let walked = k .count .ensures ∙ same-count (there p .place) (k .before .rest .ensures ∙ there p .options) in
     sym (clean (a .icmp-type) (now (a .payload)) (sym (n .names-known-pair .ensures) ∙ f .before .before .if1 .left) (f .before .if2 .left) m given (c .enum-told .given .0 .0) (ap countTold (sym (c .enum-told .given .1)) ∙ walked))
 
 returns-5 : tie.Need-returns-5
 returns-5 c = let k = c .before .before .before in
-    let p = k .before .before .before in
+    let p = k .before .before .before .before in
     let f = p .before .before in
     let n = f .before .before .before in
     let a = n .before .before .args in
     let m = p .part .given .0 .0 in
     let given = ap payloadTold (sym (p .part .given .1)) ∙ f .from-slice .ensures in
-    let walked = k .count .ensures ∙ ap countOf (k .before .rest .ensures ∙ there p) in
-    sym (no-clean-walk (a .icmp-type) (now (a .payload)) (sym (n .names-known-pair .ensures) ∙ f .before .before .if1 .left) (f .before .if2 .left) m given (c .before .why2 .given .0 .1 .0) (c .before .why2 .given .0 .0) (ap countTold (sym (c .before .why2 .given .1)) ∙ walked))
+    let walked = k .count .ensures ∙ same-count (there p .place) (k .before .rest .ensures ∙ there p .options) in
+    sym (no-clean-walk (a .icmp-type) (now (a .payload)) (sym (n .names-known-pair .ensures) ∙ f .before .before .if1 .left) (f .before .if2 .left) m given 0 (c .before .why2 .given .0 .0) (ap countTold (sym (c .before .why2 .given .1)) ∙ walked))
 
 pub check-spec : {M : Type 1} → statement M
 check-spec =
@@ -100,6 +107,7 @@ check-spec =
     from-slice-requires
     enum-known-why
     enum-known-part
+    add-place
     rest-requires
     count-requires
     enum-told

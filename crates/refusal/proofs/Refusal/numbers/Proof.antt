@@ -19,41 +19,23 @@ enum-known-self-4 c = search needs
 enum-known-self-5 : tie.Need-enum-known-self-5
 enum-known-self-5 c = search needs
 
-cast-t41 : tie.Need-cast-t41
-cast-t41 c = search needs
+cast-t45 : tie.Need-cast-t45
+cast-t45 c = search needs
 
 enum-known-self-6 : tie.Need-enum-known-self-6
 enum-known-self-6 c = search needs
 
-cast-t45 : tie.Need-cast-t45
-cast-t45 c = search needs
+cast-t50 : tie.Need-cast-t50
+cast-t50 c = search needs
 
 enum-known-self-7 : tie.Need-enum-known-self-7
 enum-known-self-7 c = search needs
 
-cast-t47 : tie.Need-cast-t47
-cast-t47 c = search needs
-
-enum-known-self-8 : tie.Need-enum-known-self-8
-enum-known-self-8 c = search needs
-
-cast-t51 : tie.Need-cast-t51
-cast-t51 c = search needs
-
-cast-t52 : tie.Need-cast-t52
-cast-t52 c = search needs
-
 cast-t53 : tie.Need-cast-t53
 cast-t53 c = search needs
 
-cast-t54 : tie.Need-cast-t54
-cast-t54 c = search needs
-
-enum-known-self-9 : tie.Need-enum-known-self-9
-enum-known-self-9 c = search needs
-
-enum-known-self-10 : tie.Need-enum-known-self-10
-enum-known-self-10 c = search needs
+enum-known-self-8 : tie.Need-enum-known-self-8
+enum-known-self-8 c = search needs
 
 cast-t58 : tie.Need-cast-t58
 cast-t58 c = search needs
@@ -61,11 +43,29 @@ cast-t58 c = search needs
 cast-t59 : tie.Need-cast-t59
 cast-t59 c = search needs
 
-enum-known-self-11 : tie.Need-enum-known-self-11
-enum-known-self-11 c = search needs
+cast-t60 : tie.Need-cast-t60
+cast-t60 c = search needs
 
 cast-t61 : tie.Need-cast-t61
 cast-t61 c = search needs
+
+enum-known-self-9 : tie.Need-enum-known-self-9
+enum-known-self-9 c = search needs
+
+enum-known-self-10 : tie.Need-enum-known-self-10
+enum-known-self-10 c = search needs
+
+cast-t66 : tie.Need-cast-t66
+cast-t66 c = search needs
+
+cast-t67 : tie.Need-cast-t67
+cast-t67 c = search needs
+
+enum-known-self-11 : tie.Need-enum-known-self-11
+enum-known-self-11 c = search needs
+
+cast-t69 : tie.Need-cast-t69
+cast-t69 c = search needs
 
 enum-known-self-12 : tie.Need-enum-known-self-12
 enum-known-self-12 c = search needs
@@ -75,6 +75,9 @@ enum-known-self-13 c = search needs
 
 enum-known-self-14 : tie.Need-enum-known-self-14
 enum-known-self-14 c = search needs
+
+enum-told : tie.Need-enum-told
+enum-told c = search needs
 
 returns : tie.Need-returns
 returns c = rw (c .before .self .given .1)
@@ -118,6 +121,9 @@ returns-13 c = rw (c .before .self13 .given .1)
 returns-14 : tie.Need-returns-14
 returns-14 c = rw (c .before .self14 .given .1)
 
+returns-15 : tie.Need-returns-15
+returns-15 c = rw (c .enum-told .given .1)
+
 pub numbers-spec : {M : Type 1} → statement M
 numbers-spec =
     tie.close
@@ -127,25 +133,26 @@ numbers-spec =
     enum-known-self-3
     enum-known-self-4
     enum-known-self-5
-    cast-t41
-    enum-known-self-6
     cast-t45
+    enum-known-self-6
+    cast-t50
     enum-known-self-7
-    cast-t47
-    enum-known-self-8
-    cast-t51
-    cast-t52
     cast-t53
-    cast-t54
-    enum-known-self-9
-    enum-known-self-10
+    enum-known-self-8
     cast-t58
     cast-t59
-    enum-known-self-11
+    cast-t60
     cast-t61
+    enum-known-self-9
+    enum-known-self-10
+    cast-t66
+    cast-t67
+    enum-known-self-11
+    cast-t69
     enum-known-self-12
     enum-known-self-13
     enum-known-self-14
+    enum-told
     returns
     returns-2
     returns-3
@@ -159,4 +166,5 @@ numbers-spec =
     returns-11
     returns-12
     returns-13
-    returns-14)
+    returns-14
+    returns-15)

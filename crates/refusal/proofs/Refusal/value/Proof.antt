@@ -1,4 +1,4 @@
--- `Refusal::value` meets its contract: a refusal carries at most four numbers, so its slots have them all.
+-- `Refusal::value` meets its contract: a refusal carries at most five numbers, so its slots have them all.
 -- Assumes nothing.
 use Rattle.refusal.proofs.Paper.{slots-at, few}
 use Rattle.refusal.specs.Table.{values}

@@ -6,10 +6,10 @@ use Rattle.replay.proofs.walk.met.Statement.{statement}
 use Rattle.replay.proofs.walk.met.Tie as tie
 
 abbrev Inv-loop : tie.InvT-loop
-Inv-loop input answer to-absent w₀ left₀ w left = left ≤ 65536
+Inv-loop input offset answer to-absent w₀ left₀ w left = left ≤ 65536
 
 abbrev μ-loop : tie.MeasureT-loop
-μ-loop input answer to-absent w₀ left₀ w left = left
+μ-loop input offset answer to-absent w₀ left₀ w left = left
 
 loop-holds : tie.Need-loop-holds Inv-loop μ-loop
 loop-holds c = search needs
