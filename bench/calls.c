@@ -19,7 +19,9 @@ typedef struct brothladder_written (*write_fn)(uint8_t, uint8_t, uint32_t, const
     struct brothladder_stepped plain_step_##tag(const uint8_t *, size_t, size_t, size_t);                                   \
     struct brothladder_prefix plain_prefix_##tag(const uint8_t *, size_t, size_t);                                          \
     struct brothladder_written plain_write_##tag(uint8_t, uint8_t, uint32_t, const uint8_t *, size_t, const uint8_t *,      \
-                                                 const uint8_t *, uint8_t *, size_t);
+                                                 const uint8_t *, uint8_t *, size_t);                                       \
+    struct brothladder_written plain_write_keeping_##tag(uint8_t, uint8_t, uint32_t, const uint8_t *, size_t,               \
+                                                         const uint8_t *, const uint8_t *, uint8_t *, size_t);
 PLAIN(O2)
 PLAIN(O3)
 PLAIN(clang)
@@ -28,7 +30,7 @@ PLAIN(clang)
 struct brothladder_head nothing(const uint8_t *, size_t);
 __asm__(".text\n.globl nothing\nnothing: mov %rdi, %rax\nret\n");
 
-#define SET(name, p, t) {name, p##decode##t, p##verify##t, p##receive##t, p##step##t, p##prefix##t, p##write##t}
+#define SET(name, p, t) {name, p##decode##t, p##verify##t, p##receive##t, p##step##t, p##prefix##t, p##write##t, p##write_keeping##t}
 static const struct set {
     const char *name;
     decode_fn decode;
@@ -36,16 +38,17 @@ static const struct set {
     receive_fn receive;
     step_fn step;
     prefix_fn prefix;
-    write_fn write;
+    write_fn write, keep;
 } sets[] = {
-    {"nothing", nothing, (verify_fn)nothing, (receive_fn)nothing, (step_fn)nothing, (prefix_fn)nothing, (write_fn)nothing},
-    {"this library", brothladder_decode, brothladder_verify, brothladder_receive, brothladder_step, brothladder_read_prefix, brothladder_write},
+    {"nothing", nothing, (verify_fn)nothing, (receive_fn)nothing, (step_fn)nothing, (prefix_fn)nothing, (write_fn)nothing, (write_fn)nothing},
+    {"this library", brothladder_decode, brothladder_verify, brothladder_receive, brothladder_step, brothladder_read_prefix, brothladder_write_clearing,
+     brothladder_write_keeping},
     SET("plain C, gcc -O2", plain_, _O2),
     SET("plain C, gcc -O3", plain_, _O3),
     SET("plain C, the toolchain's clang -O3", plain_, _clang),
 };
-enum { SETS = sizeof sets / sizeof *sets, CALLS = 6 };
-static const char *const calls[CALLS] = {"decode", "verify", "receive check", "walk", "prefix", "write"};
+enum { SETS = sizeof sets / sizeof *sets, CALLS = 7 };
+static const char *const calls[CALLS] = {"decode", "verify", "receive check", "walk", "prefix", "write", "write keeping"};
 
 static inline void mark(long a, long b) {
     long r;
@@ -57,8 +60,8 @@ static struct brothladder_verified verified;
 static struct brothladder_received received;
 static struct brothladder_stepped stepped;
 static struct brothladder_prefix prefix;
-static struct brothladder_written written;
-static uint8_t out[2048];
+static struct brothladder_written written, kept;
+static uint8_t out[2048], whole[2048];
 static size_t options;
 
 /* a caller's loop: steps from 0 until no option comes */
@@ -79,6 +82,7 @@ static __attribute__((noinline)) void measure(const struct set *s, int call, lon
         case 3: if (s != sets) options = walk(s->step, p + 16, n - 16, 16); break;
         case 4: prefix = s->prefix(p + 16, 32, 16); break;
         case 5: written = s->write(p[0], p[1], (uint32_t)p[4] << 24 | (uint32_t)p[5] << 16 | (uint32_t)p[6] << 8 | p[7], p + 8, n - 8, r + 3, r + 19, out, sizeof out); break;
+        case 6: kept = s->keep(p[0], p[1], (uint32_t)p[4] << 24 | (uint32_t)p[5] << 16 | (uint32_t)p[6] << 8 | p[7], p + 8, n - 8, r + 3, r + 19, whole, sizeof whole); break;
         }
         if (i) mark(id, (long)n);
     }
@@ -90,25 +94,27 @@ static int check(const uint8_t *r, size_t n) {
     static struct brothladder_received received0;
     static struct brothladder_stepped stepped0;
     static struct brothladder_prefix prefix0;
-    static struct brothladder_written written0;
-    static uint8_t out0[2048];
+    static struct brothladder_written written0, kept0;
+    static uint8_t out0[2048], whole0[2048];
     size_t options0 = 0;
     for (int s = 1; s < SETS; s++) {
         memset(out, 0, sizeof out);
+        memset(whole, 0, sizeof whole);
         for (int c = 0; c < CALLS; c++) measure(&sets[s], c, -1, r, n);
         if (s == 1) {
-            head0 = head, verified0 = verified, received0 = received, stepped0 = stepped, prefix0 = prefix, written0 = written, options0 = options;
+            head0 = head, verified0 = verified, received0 = received, stepped0 = stepped, prefix0 = prefix, written0 = written, kept0 = kept, options0 = options;
             memcpy(out0, out, sizeof out);
+            memcpy(whole0, whole, sizeof whole);
         } else if (memcmp(&head, &head0, sizeof head) || memcmp(&verified, &verified0, sizeof verified) ||
                    memcmp(&received, &received0, sizeof received) || memcmp(&stepped, &stepped0, sizeof stepped) ||
-                   memcmp(&prefix, &prefix0, sizeof prefix) || memcmp(&written, &written0, sizeof written) || options != options0 ||
-                   memcmp(out, out0, sizeof out)) {
+                   memcmp(&prefix, &prefix0, sizeof prefix) || memcmp(&written, &written0, sizeof written) || memcmp(&kept, &kept0, sizeof kept) ||
+                   options != options0 || memcmp(out, out0, sizeof out) || memcmp(whole, whole0, sizeof whole)) {
             printf("%s answers otherwise\n", sets[s].name);
             return 1;
         }
     }
     printf("%zu bytes, %zu options: all answer alike; received %d, ended %d\n", n, options0, received0.answer == BROTHLADDER_RECEIVED, stepped0.answer == BROTHLADDER_END);
-    return received0.answer != BROTHLADDER_RECEIVED || stepped0.answer != BROTHLADDER_END || written0.answer != BROTHLADDER_WRITTEN;
+    return received0.answer != BROTHLADDER_RECEIVED || stepped0.answer != BROTHLADDER_END || written0.answer != BROTHLADDER_WRITTEN || kept0.answer != BROTHLADDER_WRITTEN;
 }
 
 /* a record with an advertisement of 1,240 bytes: 38 prefixes and an MTU */

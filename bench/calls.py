@@ -6,7 +6,7 @@ import re
 import sys
 from functools import lru_cache
 
-CALLS = ["decode", "verify", "receive", "step", "read_prefix", "write", "version_2"]
+CALLS = ["decode", "verify", "receive", "step", "read_prefix", "write", "write_clearing", "write_keeping", "version_3"]
 AIM_CODE, AIM_STACK = 16 * 1024, 512
 
 # ---- instructions
@@ -25,7 +25,7 @@ def cost(who, call, length):
     return counts[who, call, length] - counts["nothing", call, length] + (0 if call == "walk" else 2)
 
 
-columns = [("decode", small), ("receive check", small), ("receive check", large), ("walk", small), ("walk", large), ("prefix", small), ("write", small), ("write", large), ("write", longest)]
+columns = [("decode", small), ("receive check", small), ("receive check", large), ("walk", small), ("walk", large), ("prefix", small), ("write", small), ("write", large), ("write", longest), ("write keeping", small), ("write keeping", large), ("write keeping", longest)]
 rows = ["| | " + " | ".join(f"{c}, {n:,}" if c not in ("decode", "prefix") else c for c, n in columns) + " |", "|---|" + "---|" * len(columns)]
 rows += [f"| {who} | " + " | ".join(f"{cost(who, c, n):,}" for c, n in columns) + " |" for who in sets]
 

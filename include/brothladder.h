@@ -1,6 +1,6 @@
 /* brothladder.h: reads, checks and writes ICMPv6 and Neighbor Discovery packets. docs/RULES.md has every rule, area X these calls.
  *
- * Each call takes numbers and byte buffers and returns one struct by value (brothladder_version_2 takes nothing and returns a number).
+ * Each call takes numbers and byte buffers and returns one struct by value (brothladder_version_3 takes nothing and returns a number).
  * You may pass any bytes of any length. A call allocates nothing, keeps nothing from one call to the next, and uses no C library.
  *
  * The first field of each struct, `answer`, says what was found. `answer` is never 0: compare it with the constants below, do not
@@ -33,8 +33,8 @@
  * the packet, as a trace does. Only you know where in the packet your bytes begin: pass it as `offset`, or 0 to count from your own
  * first byte.
  *
- * Versions: this is version 2. Its structs are longer than those of version 1, the header without BROTHLADDER_VERSION, and two calls
- * take one argument more. Under GCC and clang each object that includes this header refers to the call brothladder_version_2, so an
+ * Versions: this is version 3, in which the head has `bytes5to8` and wider fields. Version 2 brought the offset and the place; version 1
+ * is the header without BROTHLADDER_VERSION. Under GCC and clang each object that includes this header refers to the call brothladder_version_3, so an
  * object that was compiled with the header of a later version does not link with this library, nor one of this version with a later
  * library. Objects of version 1 have no such reference: they would link, and go wrong. So compile all of them anew once. Each later
  * change of a struct, an argument or a meaning takes the next number.
@@ -47,8 +47,8 @@
  * If your kernel runs without SSE or a red zone, call these functions only where both are available (on Linux between
  * kernel_fpu_begin and kernel_fpu_end).
  *
- * What a call changes: nothing, except the packet's own bytes in `out` when brothladder_write returns BROTHLADDER_WRITTEN. A call that
- * refuses changes no buffer.
+ * What a call changes: nothing, except the packet's own bytes in `out` when a brothladder_write.. returns BROTHLADDER_WRITTEN. A call
+ * that refuses changes no buffer.
  */
 #ifndef BROTHLADDER_H
 #define BROTHLADDER_H
@@ -69,8 +69,8 @@ extern "C" {
 #define BROTHLADDER_ADDRESSES(a, b)
 #endif
 
-/* The version of this header: see the top of the file, and brothladder_version_2 at its end. */
-#define BROTHLADDER_VERSION 2u
+/* The version of this header: see the top of the file, and brothladder_version_3 at its end. */
+#define BROTHLADDER_VERSION 3u
 
 /* Values of `answer`. They all differ, over all calls, and none is 0. */
 #define BROTHLADDER_REFUSED 1u  /* any call: the input was bad; `refusal` and `value` say why */
@@ -155,9 +155,10 @@ struct brothladder_head {
     uint32_t answer; /* KNOWN, UNKNOWN or REFUSED */
     uint32_t refusal;
     uint64_t value[5];
-    uint16_t type;
-    uint16_t code;
-    uint32_t checksum; /* the field as it stands in the packet */
+    uint32_t type;
+    uint32_t code;
+    uint32_t checksum;  /* the field as it stands in the packet */
+    uint32_t bytes5to8; /* bytes 4 to 7 as they stand, as one number, high byte first: what brothladder_write_keeping takes */
     uint32_t field[4]; /* by BROTHLADDER_FIELD_.. */
 };
 
@@ -207,9 +208,9 @@ struct brothladder_prefix {
     size_t place; /* where the option begins in the packet: offset */
 };
 
-/* Decodes the head of a packet. KNOWN: type, code, checksum field and the fields of the type; reserved bits are dropped. UNKNOWN: the
- * type is none of BROTHLADDER_TYPE_.., or it has no such code; field[0] is bytes 4 to 7. The call does not verify the checksum and does
- * not test the length against the type: brothladder_receive does both.
+/* Decodes the head of a packet. KNOWN: type, code, checksum field and the fields of the type; no field holds reserved bits. UNKNOWN: the
+ * type is none of BROTHLADDER_TYPE_.., or it has no such code; field[0] is bytes 4 to 7. `bytes5to8` has them in both cases, reserved
+ * bits included. The call does not verify the checksum and does not test the length against the type: brothladder_receive does both.
  * Refusals: 1, 2. */
 BROTHLADDER_ANSWER
 struct brothladder_head brothladder_decode(const uint8_t *packet, size_t length);
@@ -246,8 +247,12 @@ struct brothladder_prefix brothladder_read_prefix(const uint8_t *option, size_t 
 
 /* Writes a packet to the start of `out`: the head with the computed checksum, then the payload; 8 + payload_length bytes in all.
  * `bytes5to8` is bytes 4 to 7 of the head as one number, high byte first. For a known type and code the reserved bits of it are
- * written as 0; for any other pair all of it is written. For types 133 to 137 with code 0 the payload must hold the whole fixed part
- * and then options that walk to END; any other payload is written as it is.
+ * written as 0 by brothladder_write_clearing and as they stand by brothladder_write_keeping; for any other pair all of it is written.
+ * brothladder_write is the default: today it clears. Whoever sends a message of his own clears; a gateway that passes a message on
+ * keeps, and takes `type`, `code` and `bytes5to8` from the decoded head. The checksum is computed anew, for the bytes that are written:
+ * a checksum of one way is not right for the bytes of the other.
+ * For types 133 to 137 with code 0 the payload must hold the whole fixed part and then options that walk to END; any other payload is
+ * written as it is.
  * Refusals, in this order: 3; then, for types 133 to 137 with code 0, 4 and 5, 6 or 7, with the place in the packet that is being written;
  * then 9. A refusal leaves `out` as it was. A packet that is written changes its own bytes of `out` and none behind them. */
 BROTHLADDER_ANSWER BROTHLADDER_ADDRESSES(6, 7)
@@ -255,9 +260,19 @@ struct brothladder_written brothladder_write(uint8_t type, uint8_t code, uint32_
                                              size_t payload_length, const uint8_t source[16], const uint8_t destination[16],
                                              uint8_t *out, size_t out_length);
 
+BROTHLADDER_ANSWER BROTHLADDER_ADDRESSES(6, 7)
+struct brothladder_written brothladder_write_clearing(uint8_t type, uint8_t code, uint32_t bytes5to8, const uint8_t *payload,
+                                                      size_t payload_length, const uint8_t source[16], const uint8_t destination[16],
+                                                      uint8_t *out, size_t out_length);
+
+BROTHLADDER_ANSWER BROTHLADDER_ADDRESSES(6, 7)
+struct brothladder_written brothladder_write_keeping(uint8_t type, uint8_t code, uint32_t bytes5to8, const uint8_t *payload,
+                                                     size_t payload_length, const uint8_t source[16], const uint8_t destination[16],
+                                                     uint8_t *out, size_t out_length);
+
 /* Returns BROTHLADDER_VERSION. You need not call it: it is here to be referred to. `retain` keeps the reference where the linker drops
  * what nobody uses. */
-uint32_t brothladder_version_2(void);
+uint32_t brothladder_version_3(void);
 
 #if defined(__GNUC__)
 #if defined(__has_attribute)
@@ -268,7 +283,7 @@ uint32_t brothladder_version_2(void);
 #ifndef BROTHLADDER_RETAIN
 #define BROTHLADDER_RETAIN
 #endif
-__attribute__((used)) BROTHLADDER_RETAIN static uint32_t (*const brothladder_version)(void) = brothladder_version_2;
+__attribute__((used)) BROTHLADDER_RETAIN static uint32_t (*const brothladder_version)(void) = brothladder_version_3;
 #endif
 
 #ifdef __cplusplus

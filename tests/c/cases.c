@@ -53,7 +53,7 @@ static void step_refuses(const char *what, struct brothladder_stepped s, size_t 
 }
 
 static void layout(void) {
-    same("head has no hole", sizeof(struct brothladder_head), 48 + 2 + 2 + 4 + 16);
+    same("head has no hole", sizeof(struct brothladder_head), 48 + 4 * 4 + 16);
     same("verified has no hole", sizeof(struct brothladder_verified), 48);
     same("stepped has no hole", sizeof(struct brothladder_stepped), 48 + 4 + 4 + 4 * sizeof(size_t));
     same("received has no hole", sizeof(struct brothladder_received), 48 + 2 * sizeof(size_t));
@@ -65,7 +65,7 @@ static void layout(void) {
         check(answers[i] != 0, "no answer is 0", "");
         for (size_t j = 0; j < i; j++) check(answers[i] != answers[j], "two answers differ", "");
     }
-    same("the version", brothladder_version_2(), BROTHLADDER_VERSION);
+    same("the version", brothladder_version_3(), BROTHLADDER_VERSION);
 }
 
 static void worked(void) {
@@ -81,11 +81,13 @@ static void worked(void) {
     same("P2 code", h.code, 1);
     same("P2 checksum", h.checksum, 0x1234);
     same("P2 bytes 4 to 7", h.field[BROTHLADDER_FIELD_BYTES], 0x56789abc);
+    same("P2 as they stand", h.bytes5to8, 0x56789abc);
     n = hex("02 00 00 00 00 00 05 00", b);
     h = brothladder_decode(b, n);
     same("P3", h.answer, BROTHLADDER_KNOWN);
     same("P3 type", h.type, BROTHLADDER_TYPE_PACKET_TOO_BIG);
     same("P3 MTU", h.field[BROTHLADDER_FIELD_MTU], 1280);
+    same("P3 bytes 4 to 7", h.bytes5to8, 1280);
 
     struct brothladder_prefix p;
     for (size_t offset = 0; offset <= 8; offset += 8) {

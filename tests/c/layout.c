@@ -10,11 +10,12 @@
 #define ENDS(name, bytes) __extension__ _Static_assert(sizeof(struct brothladder_##name) == bytes, #name)
 
 BEGINS(head);
-AT(head, type, 48, 2);
-AT(head, code, 50, 2);
-AT(head, checksum, 52, 4);
-AT(head, field, 56, 16);
-ENDS(head, 72);
+AT(head, type, 48, 4);
+AT(head, code, 52, 4);
+AT(head, checksum, 56, 4);
+AT(head, bytes5to8, 60, 4);
+AT(head, field, 64, 16);
+ENDS(head, 80);
 
 BEGINS(verified);
 ENDS(verified, 48);

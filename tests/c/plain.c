@@ -48,7 +48,8 @@ struct brothladder_head plain_decode(const uint8_t *packet, size_t length) {
     h.type = packet[0];
     h.code = packet[1];
     h.checksum = number(packet + 2, 2);
-    h.answer = h.code < codes(h.type) ? BROTHLADDER_KNOWN : BROTHLADDER_UNKNOWN;
+    h.bytes5to8 = number(packet + 4, 4);
+    h.answer = packet[1] < codes(packet[0]) ? BROTHLADDER_KNOWN : BROTHLADDER_UNKNOWN;
     if (h.answer == BROTHLADDER_UNKNOWN) {
         h.field[0] = number(packet + 4, 4);
         return h;
@@ -217,8 +218,8 @@ struct brothladder_received plain_receive(const uint8_t *packet, size_t length, 
     return r;
 }
 
-/* H8: bytes 4 to 7 as they are written. */
-static uint32_t kept(int type, int code, uint32_t bytes5to8) {
+/* H8: bytes 4 to 7 without their reserved bits. */
+static uint32_t cleared(int type, int code, uint32_t bytes5to8) {
     if (code >= codes(type)) return bytes5to8;
     switch (type) {
     case 1: case 3: case 133: case 135: case 137: return 0;
@@ -228,8 +229,9 @@ static uint32_t kept(int type, int code, uint32_t bytes5to8) {
     }
 }
 
-struct brothladder_written plain_write(uint8_t type, uint8_t code, uint32_t bytes5to8, const uint8_t *payload, size_t payload_length,
-                                       const uint8_t *source, const uint8_t *destination, uint8_t *out, size_t out_length) {
+/* H17, T9: `rest` is bytes 4 to 7 as they are written. */
+static struct brothladder_written write_head(uint8_t type, uint8_t code, uint32_t rest, const uint8_t *payload, size_t payload_length,
+                                             const uint8_t *source, const uint8_t *destination, uint8_t *out, size_t out_length) {
     struct brothladder_written w;
     bool source_option;
     memset(&w, 0, sizeof w);
@@ -241,7 +243,6 @@ struct brothladder_written plain_write(uint8_t type, uint8_t code, uint32_t byte
         if ((w.refusal = bad_walk(payload + fixed, payload_length - fixed, 8 + fixed, w.value, &source_option)) != 0) return w;
     }
     if (out_length < 8 + payload_length) return w.value[0] = 8 + payload_length, w.refusal = 9, w;
-    uint32_t rest = kept(type, code, bytes5to8);
     const uint8_t head[8] = {type, code, 0, 0, (uint8_t)(rest >> 24), (uint8_t)(rest >> 16), (uint8_t)(rest >> 8), (uint8_t)rest};
     memcpy(out, head, 8);
     if (payload_length > 0) memcpy(out + 8, payload, payload_length);
@@ -251,6 +252,17 @@ struct brothladder_written plain_write(uint8_t type, uint8_t code, uint32_t byte
     out[3] = (uint8_t)sum;
     w.answer = BROTHLADDER_WRITTEN;
     return w;
+}
+
+struct brothladder_written plain_write(uint8_t type, uint8_t code, uint32_t bytes5to8, const uint8_t *payload, size_t payload_length,
+                                       const uint8_t *source, const uint8_t *destination, uint8_t *out, size_t out_length) {
+    return write_head(type, code, cleared(type, code, bytes5to8), payload, payload_length, source, destination, out, out_length);
+}
+
+struct brothladder_written plain_write_keeping(uint8_t type, uint8_t code, uint32_t bytes5to8, const uint8_t *payload,
+                                               size_t payload_length, const uint8_t *source, const uint8_t *destination, uint8_t *out,
+                                               size_t out_length) {
+    return write_head(type, code, bytes5to8, payload, payload_length, source, destination, out, out_length);
 }
 
 /* O1 and O4: a prefix information option. */

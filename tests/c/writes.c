@@ -1,7 +1,27 @@
-/* The packet writer: its refusals, its limits, what it touches, and every message that damaged.c makes written again. */
+/* The packet writer: its refusals, its limits, what it touches, and every message that damaged.c makes written again, each way. */
 #include "check.h"
 #include "plain.h"
 #include <string.h>
+
+/* The default, which clears, and both ways by their names; and the same in plain C. */
+enum way { DEFAULT, CLEARING, KEEPING, WAYS };
+
+static struct brothladder_written by(enum way way, const uint8_t head[8], const uint8_t *payload, size_t n, const uint8_t *source,
+                                     const uint8_t *destination, uint8_t *out, size_t room) {
+    uint32_t rest = (uint32_t)head[4] << 24 | (uint32_t)head[5] << 16 | (uint32_t)head[6] << 8 | head[7];
+    switch (way) {
+    case CLEARING: return brothladder_write_clearing(head[0], head[1], rest, payload, n, source, destination, out, room);
+    case KEEPING: return brothladder_write_keeping(head[0], head[1], rest, payload, n, source, destination, out, room);
+    default: return brothladder_write(head[0], head[1], rest, payload, n, source, destination, out, room);
+    }
+}
+
+static struct brothladder_written plain_by(enum way way, const uint8_t head[8], const uint8_t *payload, size_t n, const uint8_t *source,
+                                           const uint8_t *destination, uint8_t *out, size_t room) {
+    uint32_t rest = (uint32_t)head[4] << 24 | (uint32_t)head[5] << 16 | (uint32_t)head[6] << 8 | head[7];
+    return way == KEEPING ? plain_write_keeping(head[0], head[1], rest, payload, n, source, destination, out, room)
+                          : plain_write(head[0], head[1], rest, payload, n, source, destination, out, room);
+}
 
 /* The refusals of a walk come behind the fixed part too; whatever is refused, the output stays. */
 static void write_refused(void) {
@@ -51,29 +71,78 @@ static void write_longest(void) {
     refuses("no room for it", &w, sizeof w, 9, 65535, 0, 0, 0, 0);
 }
 
-/* All types with all codes: what is reserved is written 0, and all of bytes 4 to 7 of an unknown pair is kept. */
+/* All types with all codes, bytes 4 to 7 all ones and all zeros, each way. */
 static void write_pairs(void) {
-    for (int type = 0; type < 256; type++)
-        for (int code = 0; code < 256; code++) {
-            uint8_t out[40] = {0}, wanted[40] = {0};
-            struct brothladder_written w = brothladder_write((uint8_t)type, (uint8_t)code, 0xffffffff, NULL, 0, router, all_routers, out, sizeof out);
-            struct brothladder_written ww = plain_write((uint8_t)type, (uint8_t)code, 0xffffffff, NULL, 0, router, all_routers, wanted, sizeof wanted);
-            same_answer("written", &w, &ww, sizeof w);
-            check(memcmp(out, wanted, sizeof out) == 0, "the bytes written", "");
-        }
+    for (int i = 0; i < 65536 * 2 * WAYS; i++) {
+        uint8_t out[40] = {0}, wanted[40] = {0}, head[8] = {(uint8_t)(i >> 8), (uint8_t)i};
+        enum way way = (enum way)(i >> 17);
+        memset(head + 4, i >> 16 & 1 ? 0xff : 0, 4);
+        struct brothladder_written w = by(way, head, NULL, 0, router, all_routers, out, sizeof out);
+        struct brothladder_written ww = plain_by(way, head, NULL, 0, router, all_routers, wanted, sizeof wanted);
+        same_answer("written", &w, &ww, sizeof w);
+        check(memcmp(out, wanted, sizeof out) == 0, "the bytes written", "");
+    }
 }
 
-void write_again(const uint8_t *packet, size_t n, const uint8_t *source, const uint8_t *destination) {
+/* A head with one bit of bytes 4 to 7, read and written: kept it comes back whole, cleared without that bit where it is reserved (H8). */
+static unsigned reserved_bits(uint8_t type, size_t fixed) {
+    unsigned reserved = 0;
+    for (int bit = 0; bit < 32; bit++) {
+        uint8_t came[40] = {type}, kept[40] = {0}, cleared[40] = {0};
+        came[4 + bit / 8] = (uint8_t)(0x80 >> bit % 8);
+        unsigned sum = plain_checksum(came, 8 + fixed, router, all_routers);
+        came[2] = (uint8_t)(sum >> 8);
+        came[3] = (uint8_t)sum;
+        struct brothladder_head h = brothladder_decode(came, 8 + fixed);
+        struct brothladder_written w = brothladder_write_keeping((uint8_t)h.type, (uint8_t)h.code, h.bytes5to8, came + 8, fixed, router, all_routers, kept, sizeof kept);
+        same("kept", w.length, 8 + fixed);
+        check(memcmp(kept, came, 8) == 0, "kept", "the eight bytes that came");
+        w = brothladder_write_clearing((uint8_t)h.type, (uint8_t)h.code, h.bytes5to8, came + 8, fixed, router, all_routers, cleared, sizeof cleared);
+        same("cleared", w.length, 8 + fixed);
+        reserved += cleared[4 + bit / 8] == 0;
+    }
+    return reserved;
+}
+
+static void write_bits(void) {
+    same("reserved bits of 1", reserved_bits(1, 0), 32);
+    same("reserved bits of 2", reserved_bits(2, 0), 0);
+    same("reserved bits of 3", reserved_bits(3, 0), 32);
+    same("reserved bits of 4", reserved_bits(4, 0), 0);
+    same("reserved bits of 128", reserved_bits(128, 0), 0);
+    same("reserved bits of 129", reserved_bits(129, 0), 0);
+    same("reserved bits of 133", reserved_bits(133, 0), 32);
+    same("reserved bits of 134", reserved_bits(134, 8), 6);
+    same("reserved bits of 135", reserved_bits(135, 16), 32);
+    same("reserved bits of 136", reserved_bits(136, 16), 29);
+    same("reserved bits of 137", reserved_bits(137, 32), 32);
+    same("reserved bits of 200", reserved_bits(200, 0), 0);
+}
+
+/* The checksum of one way does not go with the bytes of the other (docs/RULES.md S11). */
+static void write_mixed(void) {
+    uint8_t kept[16], cleared[16];
+    struct brothladder_written w = brothladder_write_keeping(134, 0, 0x40080708, none, 8, none, none, kept, sizeof kept);
+    same("kept", w.answer, BROTHLADDER_WRITTEN);
+    w = brothladder_write_clearing(134, 0, 0x40080708, none, 8, none, none, cleared, sizeof cleared);
+    same("cleared", w.answer, BROTHLADDER_WRITTEN);
+    check(kept[2] == 0x32 && kept[3] == 0xa5 && kept[5] == 8, "kept", "86 00 32 a5 40 08 07 08");
+    check(cleared[2] == 0x32 && cleared[3] == 0xad && cleared[5] == 0, "cleared", "86 00 32 ad 40 00 07 08");
+    kept[3] = 0xad;
+    cleared[3] = 0xa5;
+    same("kept bits, the checksum of clearing", brothladder_verify(kept, 16, none, none).answer, BROTHLADDER_INVALID);
+    same("no kept bits, the checksum of keeping", brothladder_verify(cleared, 16, none, none).answer, BROTHLADDER_INVALID);
+}
+
+static void write_by(enum way way, const uint8_t *packet, size_t n, const uint8_t *source, const uint8_t *destination) {
     uint8_t out[LONGEST], wanted[LONGEST];
-    if (n < 8) return;
-    uint32_t rest = (uint32_t)packet[4] << 24 | (uint32_t)packet[5] << 16 | (uint32_t)packet[6] << 8 | packet[7];
     size_t room = below(8) ? n + below(40) : below((uint32_t)n + 1);
     for (size_t i = 0; i < room; i++) wanted[i] = out[i] = (uint8_t)chance();
     enum side side = below(2) ? LOW : HIGH;
     const uint8_t *p = lend(PACKET, side, packet + 8, n - 8), *from = lend(SOURCE, side, source, 16), *to = lend(DESTINATION, side, destination, 16);
     uint8_t *o = lend(OUT, side, out, room);
-    struct brothladder_written w = brothladder_write(packet[0], packet[1], rest, p, n - 8, from, to, o, room);
-    struct brothladder_written ww = plain_write(packet[0], packet[1], rest, packet + 8, n - 8, source, destination, wanted, room);
+    struct brothladder_written w = by(way, packet, p, n - 8, from, to, o, room);
+    struct brothladder_written ww = plain_by(way, packet, packet + 8, n - 8, source, destination, wanted, room);
     same_answer("write", &w, &ww, sizeof w);
     note(w.answer, w.refusal, 0);
     check(stands(OUT, wanted, room), "write", "the output holds the packet, then what it held");
@@ -82,7 +151,13 @@ void write_again(const uint8_t *packet, size_t n, const uint8_t *source, const u
     same("written validates", brothladder_verify(o, w.length, from, to).answer, BROTHLADDER_VALID);
     struct brothladder_head came = brothladder_decode(packet, n), went = brothladder_decode(o, w.length);
     went.checksum = came.checksum;
+    if (way != KEEPING) went.bytes5to8 = came.bytes5to8; /* what is left of it stands in `wanted` */
     same_answer("write then read", &went, &came, sizeof went);
+}
+
+void write_again(const uint8_t *packet, size_t n, const uint8_t *source, const uint8_t *destination) {
+    if (n < 8) return;
+    for (int way = DEFAULT; way < WAYS; way++) write_by((enum way)way, packet, n, source, destination);
 }
 
 void writes(void) {
@@ -91,4 +166,6 @@ void writes(void) {
     write_empty();
     write_longest();
     write_pairs();
+    write_bits();
+    write_mixed();
 }

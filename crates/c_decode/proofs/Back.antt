@@ -27,26 +27,26 @@ toldFrom h =
     (cond (eqb (h .«icmp_type») 1) coded
     (cond (eqb (h .«icmp_type») 3) coded (cond (eqb (h .«icmp_type») 4) coded (h .«icmp_type» ∷ h .field))))
 
-value-back : (sum : ℕ) (t : Icmpv6Type) → typeFrom (toldFrom (headOfValue sum (typeTold t))) ≡ t
-value-back sum (Unknown k c w) = refl
-value-back sum (DestinationUnreachable c) = type-back (DestinationUnreachable c)
-value-back sum (PacketTooBig mtu) = refl
-value-back sum (TimeExceeded c) = type-back (TimeExceeded c)
-value-back sum (ParameterProblem h) = type-back (ParameterProblem h)
-value-back sum (EchoRequest h) = refl
-value-back sum (EchoReply h) = refl
-value-back sum RouterSolicitation = refl
-value-back sum (RouterAdvertisement h) = type-back (RouterAdvertisement h)
-value-back sum NeighborSolicitation = refl
-value-back sum (NeighborAdvertisement h) = type-back (NeighborAdvertisement h)
-value-back sum Redirect = refl
+value-back : (sum word : ℕ) (t : Icmpv6Type) → typeFrom (toldFrom (headOfValue sum word (typeTold t))) ≡ t
+value-back sum word (Unknown k c w) = refl
+value-back sum word (DestinationUnreachable c) = type-back (DestinationUnreachable c)
+value-back sum word (PacketTooBig mtu) = refl
+value-back sum word (TimeExceeded c) = type-back (TimeExceeded c)
+value-back sum word (ParameterProblem h) = type-back (ParameterProblem h)
+value-back sum word (EchoRequest h) = refl
+value-back sum word (EchoReply h) = refl
+value-back sum word RouterSolicitation = refl
+value-back sum word (RouterAdvertisement h) = type-back (RouterAdvertisement h)
+value-back sum word NeighborSolicitation = refl
+value-back sum word (NeighborAdvertisement h) = type-back (NeighborAdvertisement h)
+value-back sum word Redirect = refl
 
 abbrev headerFrom : Head → HeaderRead
 headerFrom h =
-    cond (eqb (h .refusal) 0) (Header (record { «icmp_type» = typeFrom (toldFrom h); checksum = h .checksum }))
+    cond (eqb (h .refusal) 0) (Header (record { «icmp_type» = typeFrom (toldFrom h); checksum = h .checksum; bytes5to8 = h .bytes5to8 }))
     (NoHeader (why (h .refusal) (h .value)))
 
 pub head-back : (r : HeaderRead) → headerFrom (headFor (headerReadTold r)) ≡ r
 unfolding headFor
-head-back (Header h) = rw (value-back (h .checksum) (h .«icmp_type»))
+head-back (Header h) = rw (value-back (h .checksum) (h .bytes5to8) (h .«icmp_type»))
 head-back (NoHeader r) = simp (refusal-numbered r) (ap NoHeader (why-back r))

@@ -11,18 +11,18 @@ use Rattle.icmpv6_type.specs.Value.{fieldsOf}
 use Rattle.c_answer.specs.Answer.{KNOWN}
 use Rattle.c_decode.specs.Head.{fields, fieldsFor, head, headOfValue}
 
-pub known-head : (sum : ℕ) (b : List ℕ) {k c : ℕ} → Known k c → headOfValue sum (k ∷ fieldsOf k c b) ≡ head KNOWN k c sum (fieldsFor k b)
-known-head sum b (unreachable h) = refl
-known-head sum b tooBig = refl
-known-head sum b (exceeded h) = refl
-known-head sum b (problem h) = refl
-known-head sum b echoRequest = refl
-known-head sum b echoReply = refl
-known-head sum b routerSolicitation = refl
-known-head sum b routerAdvertisement = refl
-known-head sum b neighborSolicitation = refl
-known-head sum b neighborAdvertisement = refl
-known-head sum b redirect = refl
+pub known-head : (sum word : ℕ) (b : List ℕ) {k c : ℕ} → Known k c → headOfValue sum word (k ∷ fieldsOf k c b) ≡ head KNOWN k c sum word (fieldsFor k b)
+known-head sum word b (unreachable h) = refl
+known-head sum word b tooBig = refl
+known-head sum word b (exceeded h) = refl
+known-head sum word b (problem h) = refl
+known-head sum word b echoRequest = refl
+known-head sum word b echoReply = refl
+known-head sum word b routerSolicitation = refl
+known-head sum word b routerAdvertisement = refl
+known-head sum word b neighborSolicitation = refl
+known-head sum word b neighborAdvertisement = refl
+known-head sum word b redirect = refl
 
 module _ (k : ℕ) (b : List ℕ)
     (n2 : k ≡ 2 → ⊥)

@@ -1,5 +1,5 @@
--- The head of a packet for C. On paper it is the checksum field and then the value: 0, type, code and bytes 4 to 7 of an Unknown, else the
--- type and what it keeps, of types 1, 3 and 4 first the code.
+-- The head of a packet for C. On paper it is the checksum field, bytes 4 to 7, and then the value: 0, type, code and bytes 4 to 7 of an Unknown, else
+-- the type and what it keeps, of types 1, 3 and 4 first the code.
 -- Assumes nothing.
 use Prim.Native.Nat.{ℕ}
 use mathlib.Core.Bool.{cond}
@@ -9,7 +9,7 @@ use lib.ListN.{getD, drop}
 use Rattle.paper.specs.Paper.{Paper}
 use Rattle.refusal.specs.Paper.{slots}
 use Rattle.icmpv6_type.specs.Value.{fieldsOf, typeOf}
-use Rattle.icmpv6.specs.Head.{fieldsAt, checksumAt}
+use Rattle.icmpv6.specs.Head.{fieldsAt, checksumAt, wordAt}
 use Rattle.c_answer.specs.Answer.{REFUSED, KNOWN, UNKNOWN, none}
 use Rattle.c_decode.specs.declared.Head.{Head}
 
@@ -31,8 +31,8 @@ keptOf v = fields (byForm v (drop 3 v) (drop 2 v) (drop 1 v))
 abbrev pub fieldsFor : ℕ → List ℕ → List ℕ
 fieldsFor k b = keptOf (k ∷ fieldsOf k 0 b)
 
-abbrev pub head : ℕ → ℕ → ℕ → ℕ → List ℕ → Head
-head answer type code checksum field =
+abbrev pub head : ℕ → ℕ → ℕ → ℕ → ℕ → List ℕ → Head
+head answer type code checksum word field =
     record {
       answer = answer;
       refusal = 0;
@@ -40,22 +40,23 @@ head answer type code checksum field =
       «icmp_type» = type;
       code = code;
       checksum = checksum;
+      bytes5to8 = word;
       field = field;
     }
 
--- the checksum field and the value
-abbrev pub headOfValue : ℕ → List ℕ → Head
-headOfValue checksum v =
-    head (byForm v UNKNOWN KNOWN KNOWN) (byForm v (getD v 1 0) (getD v 0 0) (getD v 0 0)) (byForm v (getD v 2 0) (getD v 1 0) 0) checksum
+-- the checksum field, bytes 4 to 7 and the value
+abbrev pub headOfValue : ℕ → ℕ → List ℕ → Head
+headOfValue checksum word v =
+    head (byForm v UNKNOWN KNOWN KNOWN) (byForm v (getD v 1 0) (getD v 0 0) (getD v 0 0)) (byForm v (getD v 2 0) (getD v 1 0) 0) checksum word
     (keptOf v)
 
 -- a packet's head by its type and code
 abbrev pub headAt : ℕ → ℕ → List ℕ → Head
-headAt k c p = headOfValue (checksumAt p) (typeOf k c (fieldsAt p))
+headAt k c p = headOfValue (checksumAt p) (wordAt p) (typeOf k c (fieldsAt p))
 
 unfoldable pub headFor : Paper → Head
 headFor p =
-    cond (eqb (p .number) 0) (headOfValue (getD (p .values) 0 0) (drop 1 (p .values)))
+    cond (eqb (p .number) 0) (headOfValue (getD (p .values) 0 0) (getD (p .values) 1 0) (drop 2 (p .values)))
     (record {
       answer = REFUSED;
       refusal = p .number;
@@ -63,5 +64,6 @@ headFor p =
       «icmp_type» = 0;
       code = 0;
       checksum = 0;
+      bytes5to8 = 0;
       field = fields [];
     })

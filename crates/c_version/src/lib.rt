@@ -2,11 +2,11 @@
 // header of another version does not link.
 ghost use mathlib.Core.Path.{_≡_};
 
-pub const VERSION: u32 = 2;
+pub const VERSION: u32 = 3;
 
 #[no_mangle]
-pub extern "C" fn brothladder_version_2() -> u32
-    ensures { λ r. ⌜ r ≡ 2 ⌝ }
+pub extern "C" fn brothladder_version_3() -> u32
+    ensures { λ r. ⌜ r ≡ 3 ⌝ }
 {
     VERSION
 }

@@ -2,7 +2,7 @@
 -- Assumes nothing.
 use Prim.Native.Nat.{ℕ}
 use mathlib.Core.List.{List}
-use mathlib.Core.Path.{refl, sym, ap, _∙_}
+use mathlib.Core.Path.{sym, ap, _∙_}
 use Rattle.paper.specs.Only.{Only}
 use Rattle.paper.proofs.Facts.{two}
 use Rattle.c_write.proofs.brothladder_write as brothladder-write

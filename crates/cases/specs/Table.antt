@@ -75,9 +75,9 @@ table =
     -- P1 7 bytes: 1 (8, 7)
     decodes (zeros 7) (refuses 1 (8 ∷ 7 ∷ []))
     -- P2 type 128 code 1: Unknown
-    ∷ decodes (128 ∷ 1 ∷ zeros 6) (gives (0 ∷ 0 ∷ 128 ∷ 1 ∷ 0 ∷ []))
+    ∷ decodes (128 ∷ 1 ∷ zeros 6) (gives (0 ∷ 0 ∷ 0 ∷ 128 ∷ 1 ∷ 0 ∷ []))
     -- P3 02 00 00 00 00 00 05 00: too big, MTU 1,280
-    ∷ decodes (2 ∷ zeros 5 ++ (5 ∷ 0 ∷ [])) (gives (0 ∷ 2 ∷ 1280 ∷ []))
+    ∷ decodes (2 ∷ zeros 5 ++ (5 ∷ 0 ∷ [])) (gives (0 ∷ 1280 ∷ 2 ∷ 1280 ∷ []))
     -- P4 no options: End
     ∷ walks 0 [] clean
     ∷ walks 8 [] clean

@@ -1,7 +1,7 @@
 // Runs RFC 1071's worked example, the cases P11 to P13 of docs/RULES.md and the packets of real captures.
 // Standard input holds records (docs/RULES.md C1). A line for each has the checksum that is computed
 // for its packet and the verdict; then each of its bytes is inverted in turn, and no such packet may validate. At the end stands
-// how many headers that were read and given their checksum anew have the checksum that came in.
+// how many heads that were read, given their checksum anew and written are those that came in: clearing, and keeping.
 ghost use Prim.Native.Nat.{_+_, _≤_};
 ghost use lib.ListN.{length};
 use capture::Next;
@@ -91,47 +91,107 @@ fn count_survivors(copy: &mut [u8], packet: &[u8], source: &[u8; 16], destinatio
     count
 }
 
-// 1 where the header, read and given its checksum anew, has the checksum that it came with, and else 0.
-fn comes_again(packet: &[u8], source: &[u8; 16], destination: &[u8; 16]) -> u64
+// 1 where a packet begins with a head, and else 0.
+fn begins(packet: &[u8], head: [u8; 8]) -> u64
     ensures { λ r. ⌜ r ≤ 1 ⌝ }
 {
-    let HeaderRead::Header(read) = Icmpv6Header::from_slice(packet) else {
-        return 0;
-    };
+    if wire::begins_with(packet, &head) {
+        1
+    } else {
+        0
+    }
+}
+
+// The head that was read, given its checksum anew and written without its reserved bits. The value alone has that checksum too.
+fn comes_cleared(
+    read: Icmpv6Header,
+    packet: &[u8],
+    source: &[u8; 16],
+    destination: &[u8; 16],
+) -> u64
+    ensures { λ r. ⌜ r ≤ 1 ⌝ }
+{
     let t = read.icmp_type;
     let payload = icmpv6::icmpv6_slice::payload(packet);
     let HeaderMade::Header(made) = icmpv6_checksum::with_checksum(t, payload, source, destination)
     else {
         return 0;
     };
-    if made.checksum == read.checksum { 1 } else { 0 }
+    let HeaderMade::Header(again) = icmpv6_checksum::sealed_clearing(
+        read,
+        payload,
+        source,
+        destination,
+    ) else {
+        return 0;
+    };
+    if made.checksum != again.checksum {
+        return 0;
+    }
+    begins(packet, again.to_bytes_clearing())
 }
 
-// What a record adds up to: damaged packets that survive, and headers that come again.
+// The same with the reserved bits that it kept. Bytes 4 to 7 come of the value and what was kept, too.
+fn comes_kept(read: Icmpv6Header, packet: &[u8], source: &[u8; 16], destination: &[u8; 16]) -> u64
+    ensures { λ r. ⌜ r ≤ 1 ⌝ }
+{
+    let t = read.icmp_type;
+    let rest = t.bytes5to8_keeping(read.bytes5to8);
+    if !wire::begins_with(&rest, &wire::u32_to_be(read.bytes5to8)) {
+        return 0;
+    }
+    let payload = icmpv6::icmpv6_slice::payload(packet);
+    let HeaderMade::Header(again) = icmpv6_checksum::sealed_keeping(
+        read,
+        payload,
+        source,
+        destination,
+    ) else {
+        return 0;
+    };
+    begins(packet, again.to_bytes_keeping())
+}
+
+// What a record adds up to: damaged packets that survive, heads that come again clearing, and keeping.
 struct Tally {
     survivors: u64,
-    headers: u64,
+    cleared: u64,
+    kept: u64,
+}
+
+fn tally_of(packet: &[u8], survivors: u64, source: &[u8; 16], destination: &[u8; 16]) -> Tally
+    requires { ⌜ survivors ≤ 2048 ⌝ }
+    ensures { λ r. ⌜ (r .survivors ≤ 2048) × (r .cleared ≤ 1) × (r .kept ≤ 1) ⌝ }
+{
+    match Icmpv6Header::from_slice(packet) {
+        HeaderRead::Header(read) => Tally {
+            survivors,
+            cleared: comes_cleared(read, packet, source, destination),
+            kept: comes_kept(read, packet, source, destination),
+        },
+        HeaderRead::Refused(_) => Tally {
+            survivors,
+            cleared: 0,
+            kept: 0,
+        },
+    }
 }
 
 // A record's line.
 fn run_record(records: &[u8], found: Record) -> Tally
-    ensures { λ r. ⌜ (r .survivors ≤ 2048) × (r .headers ≤ 1) ⌝ }
+    ensures { λ r. ⌜ (r .survivors ≤ 2048) × (r .cleared ≤ 1) × (r .kept ≤ 1) ⌝ }
 {
     let source = capture::address(records, found.source);
     let destination = capture::address(records, found.destination);
     let packet = capture::part(records, found.packet, found.len);
     say_checksum(packet, &source, &destination);
     say_verdict(packet, &source, &destination);
-    let headers = comes_again(packet, &source, &destination);
     if capture::MAX_PACKET_LEN < packet.len() {
-        return Tally {
-            survivors: 0,
-            headers,
-        };
+        return tally_of(packet, 0, &source, &destination);
     }
     let mut copy = [0u8; 2048];
     let survivors = count_survivors(&mut copy, packet, &source, &destination);
-    Tally { survivors, headers }
+    tally_of(packet, survivors, &source, &destination)
 }
 
 fn say_place(number: u64, at: usize) {
@@ -139,9 +199,10 @@ fn say_place(number: u64, at: usize) {
     say_number(b" at ", at as u64);
 }
 
-fn say_totals(records: u64, headers: u64, survivors: u64, left: usize) {
+fn say_totals(records: u64, cleared: u64, kept: u64, survivors: u64, left: usize) {
     say_number(b"records ", records);
-    say_number(b" headers ", headers);
+    say_number(b" cleared ", cleared);
+    say_number(b" kept ", kept);
     say_number(b" survivors ", survivors);
     say_number(b" left ", left as u64);
     say(b"\n");
@@ -152,7 +213,8 @@ fn run_capture(records: &[u8])
 {
     let mut at = 0;
     let mut number: u64 = 0;
-    let mut headers: u64 = 0;
+    let mut cleared: u64 = 0;
+    let mut kept: u64 = 0;
     let mut survivors: u64 = 0;
     loop {
         match next_record(records, at, 0) {
@@ -160,16 +222,17 @@ fn run_capture(records: &[u8])
                 number += 1;
                 say_place(number, at);
                 let tally = run_record(records, found);
-                headers += tally.headers;
+                cleared += tally.cleared;
+                kept += tally.kept;
                 survivors += tally.survivors;
                 at = found.next;
             }
             Next::End => {
-                say_totals(number, headers, survivors, 0);
+                say_totals(number, cleared, kept, survivors, 0);
                 return;
             }
             Next::Refused(_) => {
-                say_totals(number, headers, survivors, records.len() - at);
+                say_totals(number, cleared, kept, survivors, records.len() - at);
                 return;
             }
         }

@@ -4,13 +4,15 @@
 // checker covers no record that is lent and no struct that holds a slice; each is no more than its call.
 ghost use mathlib.Core.Path.{_≡_};
 ghost use lib.ListN.{drop};
-ghost use Rattle.icmpv6.specs.Head.{headerTold};
+ghost use Rattle.icmpv6.specs.Head.{byDefault, headerTold};
 ghost use Rattle.checksum.specs.Told.{computed};
-ghost use Rattle.icmpv6_checksum.specs.Header.{calcOf, headerAfter};
+ghost use Rattle.icmpv6_checksum.specs.Header.{calcBy, headerAfter};
 use capture::part;
 use checksum::Computed;
+use icmpv6::icmpv6_header::HeaderRead;
 use icmpv6::icmpv6_header::Icmpv6Header;
 use icmpv6_checksum::HeaderMade;
+use icmpv6_checksum::calc_checksum;
 use icmpv6_checksum::to_header;
 use icmpv6_checksum::update_checksum;
 use icmpv6_headers::neighbor_advertisement_header::NeighborAdvertisementHeader;
@@ -41,6 +43,8 @@ use receive::Received;
 use receive::receive_check;
 use record_writer::write_record;
 use writer::write_packet;
+use writer::write_packet_clearing;
+use writer::write_packet_keeping;
 
 // fe80::1, fe80::2, ff02::1, ff02::2, ff02::1:ff00:2 and 2001:db8::9.
 const ROUTER: [u8; 16] = [0xfe, 0x80, 0, 0, 0, 0, 0, 0, 0, 0, 0, 0, 0, 0, 0, 1];
@@ -185,8 +189,8 @@ fn updated(
     source: &[u8; 16],
     destination: &[u8; 16],
 ) -> HeaderUpdated
-    ensures { λ r. ⌜ (computed (r .answer) ≡ calcOf (now (source .entry)) (now (destination .entry)) (h .«icmp_type») (now (payload .entry)))
-        × (headerTold (r .header) ≡ headerAfter (calcOf (now (source .entry)) (now (destination .entry)) (h .«icmp_type») (now (payload .entry))) (headerTold h)) ⌝ }
+    ensures { λ r. ⌜ (computed (r .answer) ≡ calcBy byDefault (now (source .entry)) (now (destination .entry)) h (now (payload .entry)))
+        × (headerTold (r .header) ≡ headerAfter (calcBy byDefault (now (source .entry)) (now (destination .entry)) h (now (payload .entry))) (headerTold h)) ⌝ }
 {
     let mut header = h;
     let answer = update_checksum(&mut header, payload, source, destination);
@@ -201,7 +205,7 @@ fn is_answered(answer: Computed, header: Icmpv6Header) -> bool {
     }
 }
 
-// Whether a packet is what a header with another checksum is once its own is set.
+// Whether a packet is what a header with another checksum, and with bits that the default does not write, is once its own is set.
 fn is_as_updated(
     icmp_type: Icmpv6Type,
     source: &[u8; 16],
@@ -212,6 +216,7 @@ fn is_as_updated(
     let other = Icmpv6Header {
         icmp_type,
         checksum: 1,
+        bytes5to8: 4294967295,
     };
     let after = updated(other, payload, source, destination);
     let answer = after.answer;
@@ -228,9 +233,41 @@ fn is_as_made(
     packet: &[u8],
 ) -> bool {
     match to_header(icmp_type, payload, source, destination) {
-        HeaderMade::Header(header) => is_headed(header, payload, packet),
+        HeaderMade::Header(header) => {
+            let answer = calc_checksum(icmp_type, payload, source, destination);
+            is_answered(answer, header) && is_headed(header, payload, packet)
+        }
         HeaderMade::Refused(_) => false,
     }
+}
+
+// Whether a packet was written, and is another.
+fn is_again(answer: Written, out: &[u8], packet: &[u8]) -> bool {
+    match answer {
+        Written::To(n) => check::same(part(out, 0, n), packet),
+        Written::Refused(_) => false,
+    }
+}
+
+// Whether a packet whose reserved bits are 0 comes again from its header and its payload, both ways: clearing also where the header kept others.
+fn is_passed_on(source: &[u8; 16], destination: &[u8; 16], payload: &[u8], packet: &[u8]) -> bool {
+    let HeaderRead::Header(read) = Icmpv6Header::from_slice(packet) else {
+        return false;
+    };
+    let mut out = [0u8; 128];
+    let kept = write_packet_keeping(read, source, destination, payload, &mut out);
+    if !is_again(kept, &out, packet) {
+        return false;
+    }
+    let icmp_type = read.icmp_type;
+    let other = Icmpv6Header {
+        icmp_type,
+        checksum: 1,
+        bytes5to8: 4294967295,
+    };
+    let mut second = [0u8; 128];
+    let cleared = write_packet_clearing(other, source, destination, payload, &mut second);
+    is_again(cleared, &second, packet)
 }
 
 fn put_record(source: &[u8; 16], destination: &[u8; 16], packet: &[u8]) {
@@ -243,7 +280,8 @@ fn put_record(source: &[u8; 16], destination: &[u8; 16], packet: &[u8]) {
 
 fn send(icmp_type: Icmpv6Type, source: &[u8; 16], destination: &[u8; 16], payload: &[u8]) {
     let mut packet = [0u8; 128];
-    match write_packet(icmp_type, source, destination, payload, &mut packet) {
+    let header = Icmpv6Header::new(icmp_type);
+    match write_packet(header, source, destination, payload, &mut packet) {
         Written::To(n) => {
             let sent = part(&packet, 0, n);
             if !is_as_made(icmp_type, source, destination, payload, sent) {
@@ -251,6 +289,9 @@ fn send(icmp_type: Icmpv6Type, source: &[u8; 16], destination: &[u8; 16], payloa
             }
             if !is_as_updated(icmp_type, source, destination, payload, sent) {
                 say(b"another checksum\n");
+            }
+            if !is_passed_on(source, destination, payload, sent) {
+                say(b"not passed on\n");
             }
             if !has_fixed_part(icmp_type.type_u8(), payload) {
                 say(b"no fixed part\n");

@@ -19,7 +19,7 @@ use Rattle.icmpv6.specs.declared.icmpv6_slice.Parts.the-variants as part
 use Rattle.icmpv6.specs.Head.{headerTold, headerReadTold, partsTold}
 
 abbrev pub headerFrom : List ℕ → Icmpv6Header
-headerFrom l = record { «icmp_type» = typeFrom (drop 1 l); checksum = getD l 0 0 }
+headerFrom l = record { «icmp_type» = typeFrom (drop 2 l); checksum = getD l 0 0; bytes5to8 = getD l 1 0 }
 
 pub header-back : (h : Icmpv6Header) → headerFrom (headerTold h) ≡ h
 header-back h = simp (type-back (h .«icmp_type»))

@@ -9,6 +9,8 @@ use Rattle.icmpv6.proofs.icmpv6_header.Icmpv6Header.new as new
 use Rattle.icmpv6.proofs.icmpv6_header.Icmpv6Header.from_slice as from-slice
 use Rattle.icmpv6.proofs.icmpv6_header.Icmpv6Header.header_len as header-len
 use Rattle.icmpv6.proofs.icmpv6_header.Icmpv6Header.to_bytes as to-bytes
+use Rattle.icmpv6.proofs.icmpv6_header.Icmpv6Header.to_bytes_clearing as to-bytes-clearing
+use Rattle.icmpv6.proofs.icmpv6_header.Icmpv6Header.to_bytes_keeping as to-bytes-keeping
 use Rattle.icmpv6.proofs.icmpv6_slice.head_parts as head-parts
 use Rattle.icmpv6.proofs.icmpv6_slice.payload as payload
 
@@ -23,6 +25,12 @@ header-len-unique M 𝓤 H A m f κs a g x y v w = one 𝓤 (λ p q. (p ∙ sym 
 
 pub to-bytes-unique : Only to-bytes.ended (λ M 𝓤. to-bytes.clauses 𝓤)
 to-bytes-unique M 𝓤 H A m f κs a g x y v w = one 𝓤 (λ p q. (p ∙ sym q, refl))
+
+pub to-bytes-clearing-unique : Only to-bytes-clearing.ended (λ M 𝓤. to-bytes-clearing.clauses 𝓤)
+to-bytes-clearing-unique M 𝓤 H A m f κs a g x y v w = one 𝓤 (λ p q. (p ∙ sym q, refl))
+
+pub to-bytes-keeping-unique : Only to-bytes-keeping.ended (λ M 𝓤. to-bytes-keeping.clauses 𝓤)
+to-bytes-keeping-unique M 𝓤 H A m f κs a g x y v w = one 𝓤 (λ p q. (p ∙ sym q, refl))
 
 pub head-parts-unique : Only head-parts.ended (λ M 𝓤. head-parts.clauses 𝓤)
 head-parts-unique M 𝓤 H A m f κs a g x y v w = one 𝓤 (λ p q. (parts-lossless x y (p ∙ sym q), refl))

@@ -1,16 +1,18 @@
-// The header record: the type value and the checksum field.
+// The header record: the type value, the checksum field and bytes 4 to 7 as they came in.
 ghost use mathlib.Core.Path.{_≡_};
 ghost use mathlib.Core.List.{_∷_};
 ghost use lib.ListN.{length};
 ghost use Rattle.icmpv6_type.specs.Value.{typeTold};
-ghost use Rattle.icmpv6.specs.Head.{headerTold, headerReadTold, decodeOf, encodeOf};
+ghost use Rattle.icmpv6.specs.Head.{Clearing, Keeping, byDefault, headerTold, headerReadTold, decodeOf, encodeWith, encodeBy};
 use icmpv6_type::Icmpv6Type;
 use packet_length::PacketLength;
 use refusal::Refusal;
 
+// Of `bytes5to8`, bytes 4 to 7 as one number, high byte first, the reserved bits alone count; 0 in a header that was made and not read.
 pub struct Icmpv6Header {
     pub icmp_type: Icmpv6Type,
     pub checksum: u16,
+    pub bytes5to8: u32,
 }
 
 pub enum HeaderRead {
@@ -26,11 +28,12 @@ impl Icmpv6Header {
 
     // A header whose checksum is still to be set.
     pub fn new(icmp_type: Icmpv6Type) -> Self
-        ensures { λ r. ⌜ headerTold r ≡ 0 ∷ typeTold «icmp_type» ⌝ }
+        ensures { λ r. ⌜ headerTold r ≡ 0 ∷ 0 ∷ typeTold «icmp_type» ⌝ }
     {
         Self {
             icmp_type,
             checksum: 0,
+            bytes5to8: 0,
         }
     }
 
@@ -45,6 +48,7 @@ impl Icmpv6Header {
                 HeaderRead::Header(Icmpv6Header {
                     icmp_type: Icmpv6Type::from_parts(packet[0], packet[1], rest),
                     checksum: wire::u16_from_be(packet[2], packet[3]),
+                    bytes5to8: wire::u32_from_be(rest[0], rest[1], rest[2], rest[3]),
                 })
             }
         }
@@ -52,18 +56,18 @@ impl Icmpv6Header {
 
     // How many bytes the header is written as. What `from_slice` leaves of the packet is `icmpv6_slice::payload`.
     pub fn header_len(self) -> usize
-        ensures { λ r. ⌜ r ≡ length (encodeOf self) ⌝ }
+        ensures { λ r. ⌜ r ≡ length (encodeBy byDefault self) ⌝ }
     {
         Icmpv6Header::MIN_LEN
     }
 
-    // The eight bytes of the header. Reserved bits are written 0.
-    pub fn to_bytes(self) -> [u8; 8]
-        ensures { λ r. ⌜ r ≡ encodeOf self ⌝ }
+    // The eight bytes of the header with the reserved bits of `kept`.
+    fn with_kept(self, kept: u32) -> [u8; 8]
+        ensures { λ r. ⌜ r ≡ encodeWith kept self ⌝ }
     {
         let t = self.icmp_type;
         let sum = wire::u16_to_be(self.checksum);
-        let rest = t.bytes5to8();
+        let rest = t.bytes5to8_keeping(kept);
         [
             t.type_u8(),
             t.code_u8(),
@@ -74,5 +78,26 @@ impl Icmpv6Header {
             rest[2],
             rest[3],
         ]
+    }
+
+    // The eight bytes of the header with 0 in every reserved bit, as the crate writes them.
+    pub fn to_bytes_clearing(self) -> [u8; 8]
+        ensures { λ r. ⌜ r ≡ encodeBy Clearing self ⌝ }
+    {
+        self.with_kept(0)
+    }
+
+    // The eight bytes of the header with the reserved bits that it kept.
+    pub fn to_bytes_keeping(self) -> [u8; 8]
+        ensures { λ r. ⌜ r ≡ encodeBy Keeping self ⌝ }
+    {
+        self.with_kept(self.bytes5to8)
+    }
+
+    // The eight bytes of the header by the default, which clears.
+    pub fn to_bytes(self) -> [u8; 8]
+        ensures { λ r. ⌜ r ≡ encodeBy byDefault self ⌝ }
+    {
+        self.to_bytes_clearing()
     }
 }

@@ -8,12 +8,20 @@ use Rattle.icmpv6.specs.declared.icmpv6_header.Icmpv6Header.{Icmpv6Header}
 use Rattle.icmpv6.proofs.Paper.{header-lossless}
 use Rattle.icmpv6_checksum.proofs.Paper.{made-lossless}
 use Rattle.icmpv6_checksum.proofs.calc_checksum as calc-checksum
+use Rattle.icmpv6_checksum.proofs.sealed_clearing as sealed-clearing
+use Rattle.icmpv6_checksum.proofs.sealed_keeping as sealed-keeping
 use Rattle.icmpv6_checksum.proofs.with_checksum as with-checksum
 use Rattle.icmpv6_checksum.proofs.to_header as to-header
 use Rattle.icmpv6_checksum.proofs.update_checksum as update-checksum
 
 pub calc-checksum-unique : Only calc-checksum.ended (λ M 𝓤. calc-checksum.clauses 𝓤)
 calc-checksum-unique M 𝓤 H A m f κs a g x y v w = one 𝓤 (λ p q. (computed-lossless x y (p ∙ sym q), refl))
+
+pub sealed-clearing-unique : Only sealed-clearing.ended (λ M 𝓤. sealed-clearing.clauses 𝓤)
+sealed-clearing-unique M 𝓤 H A m f κs a g x y v w = one 𝓤 (λ p q. (made-lossless x y (p ∙ sym q), refl))
+
+pub sealed-keeping-unique : Only sealed-keeping.ended (λ M 𝓤. sealed-keeping.clauses 𝓤)
+sealed-keeping-unique M 𝓤 H A m f κs a g x y v w = one 𝓤 (λ p q. (made-lossless x y (p ∙ sym q), refl))
 
 pub with-checksum-unique : Only with-checksum.ended (λ M 𝓤. with-checksum.clauses 𝓤)
 with-checksum-unique M 𝓤 H A m f κs a g x y v w = one 𝓤 (λ p q. (made-lossless x y (p ∙ sym q), refl))

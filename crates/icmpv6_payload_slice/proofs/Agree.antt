@@ -19,7 +19,7 @@ use Rattle.icmpv6_type.specs.declared.Icmpv6Type.{Icmpv6Type}
 use Rattle.icmpv6_type.specs.declared.Icmpv6Type.the-variants.{Unknown}
 use Rattle.icmpv6_type.specs.Value.{typeTold, typeOf, kindNumber, fieldsOf, wordOf}
 use Rattle.icmpv6.specs.declared.icmpv6_header.Icmpv6Header.{Icmpv6Header}
-use Rattle.icmpv6.specs.Head.{decodeOf, encodeOf, headerTold, fieldsAt}
+use Rattle.icmpv6.specs.Head.{Way, decodeOf, encodeBy, headerTold, fieldsAt}
 use Rattle.icmpv6_payload_slice.specs.Dispatch.{payloadKind, optionsAt, optionsIn, payloadOf, byValue, byBytes}
 use Rattle.icmpv6_payload_slice.proofs.Laws.{whole, known-pair}
 use Rattle.icmpv6_payload_slice.proofs.Opened.{known-0}
@@ -75,7 +75,7 @@ pub agree : (p : List ℕ) (h : Icmpv6Header) → decodeOf p ≡ gives (headerTo
 unfolding decodeOf byBytes
 agree p h e =
     let fits = decoded-fits (length p) _ (headerTold h) e in
-    let told = sym (ap (λ (x : Paper). drop 1 (x .values)) (sym (sized-fits (length p) (fits .low) (fits .high) _) ∙ e)) in
+    let told = sym (ap (λ (x : Paper). drop 2 (x .values)) (sym (sized-fits (length p) (fits .low) (fits .high) _) ∙ e)) in
     sized-fits (length p) (fits .low) (fits .high) _
     ∙ ap (λ (k : ℕ). payloadOf 8 k (length p)) (sym (kind-read (getD p 0 0) (getD p 1 0) (fieldsAt p) (h .«icmp_type») told))
     ∙ moved (kindNumber (h .«icmp_type»)) (length p) (fits .low)
@@ -86,10 +86,10 @@ pub unknown-raw : (k c w : ℕ) (s : List ℕ) → byValue (Unknown k c w) s ≡
 unfolding fixedLen known
 unknown-raw k c w s = whole 0 0 (length s) (omega arith)
 
--- and where it names a known pair, its bytes are dispatched as that pair's, whatever stands behind the head
-module _ (k c w sum : ℕ) (s : List ℕ) (named : known k c ≡ true) (room : length s ≤ 4294967287) where
+-- and where it names a known pair, its bytes, whichever way they were written, are dispatched as that pair's, whatever stands behind the head
+module _ (way : Way) (k c w sum kept : ℕ) (s : List ℕ) (named : known k c ≡ true) (room : length s ≤ 4294967287) where
   abbrev packet : List ℕ
-  packet = encodeOf (record { «icmp_type» = Unknown k c w; checksum = sum }) ++ s
+  packet = encodeBy way (record { «icmp_type» = Unknown k c w; checksum = sum; bytes5to8 = kept }) ++ s
 
   pub misnamed-dispatched : byBytes packet ≡ payloadOf 8 k (length packet)
   misnamed-dispatched = known-pair packet (record { low = omega arith; high = omega arith }) named

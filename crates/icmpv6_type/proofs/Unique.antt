@@ -9,6 +9,7 @@ use Rattle.icmpv6_type.proofs.Icmpv6Type.type_u8 as type-u8
 use Rattle.icmpv6_type.proofs.Icmpv6Type.kind_u8 as kind-u8
 use Rattle.icmpv6_type.proofs.Icmpv6Type.code_u8 as code-u8
 use Rattle.icmpv6_type.proofs.Icmpv6Type.bytes5to8 as bytes5to8
+use Rattle.icmpv6_type.proofs.Icmpv6Type.bytes5to8_keeping as bytes5to8-keeping
 
 pub from-parts-unique : Only from-parts.ended (λ M 𝓤. from-parts.clauses 𝓤)
 from-parts-unique M 𝓤 H A m f κs a g x y v w = one 𝓤 (λ p q. (type-lossless x y (p ∙ sym q), refl))
@@ -24,3 +25,6 @@ code-u8-unique M 𝓤 H A m f κs a g x y v w = one 𝓤 (λ p q. (p ∙ sym q, 
 
 pub bytes5to8-unique : Only bytes5to8.ended (λ M 𝓤. bytes5to8.clauses 𝓤)
 bytes5to8-unique M 𝓤 H A m f κs a g x y v w = one 𝓤 (λ p q. (p ∙ sym q, refl))
+
+pub bytes5to8-keeping-unique : Only bytes5to8-keeping.ended (λ M 𝓤. bytes5to8-keeping.clauses 𝓤)
+bytes5to8-keeping-unique M 𝓤 H A m f κs a g x y v w = one 𝓤 (λ p q. (p ∙ sym q, refl))

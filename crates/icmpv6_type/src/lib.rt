@@ -1,6 +1,8 @@
 // The value of a packet's eight-byte head, without the checksum.
 ghost use mathlib.Core.Path.{_≡_};
+ghost use Rattle.wire.specs.Wire.{bytes32};
 ghost use Rattle.icmpv6_type.specs.Value.{typeTold, typeOf, kindNumber, typeNumber, codeNumber, fieldBytes};
+ghost use Rattle.icmpv6_type.specs.Reserved.{keeping};
 use icmpv6_codes::dest_unreachable_code::DestUnreachableCode;
 use icmpv6_codes::dest_unreachable_code::DestUnreachableListing;
 use icmpv6_codes::parameter_problem_code::ParameterProblemCode;
@@ -174,6 +176,25 @@ impl Icmpv6Type {
             Icmpv6Type::RouterSolicitation => [0, 0, 0, 0],
             Icmpv6Type::NeighborSolicitation => [0, 0, 0, 0],
             Icmpv6Type::Redirect => [0, 0, 0, 0],
+        }
+    }
+
+    // The same with the reserved bits of `kept`, bytes 4 to 7 as one number. A bit that the value names is written from the value.
+    pub fn bytes5to8_keeping(self, kept: u32) -> [u8; 4]
+        ensures { λ r. ⌜ r ≡ keeping self (bytes32 kept) ⌝ }
+    {
+        let f = self.bytes5to8();
+        let k = wire::u32_to_be(kept);
+        match self {
+            Icmpv6Type::DestinationUnreachable(_) => k,
+            Icmpv6Type::TimeExceeded(_) => k,
+            Icmpv6Type::RouterSolicitation => k,
+            Icmpv6Type::NeighborSolicitation => k,
+            Icmpv6Type::Redirect => k,
+            Icmpv6Type::RouterAdvertisement(_) => [f[0], f[1] + k[1] % 64, f[2], f[3]],
+            Icmpv6Type::NeighborAdvertisement(_) => [f[0] + k[0] % 32, k[1], k[2], k[3]],
+            // All other values name every bit.
+            _ => f,
         }
     }
 }

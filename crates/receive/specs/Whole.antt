@@ -8,7 +8,7 @@ use lib.ListN.{length, getD, drop}
 use Rattle.paper.specs.Paper.{gives}
 use Rattle.message_table.specs.Table.{fixedLen}
 use Rattle.icmpv6_type.specs.Value.{fieldsOf}
-use Rattle.icmpv6.specs.Head.{decodeOf, checksumAt, fieldsAt}
+use Rattle.icmpv6.specs.Head.{decodeOf, checksumAt, wordAt, fieldsAt}
 use Rattle.ndp_walk.specs.Walk.{Item, Clean}
 use Rattle.ndp_walk.specs.Laws.{bytesIn, concat}
 use Rattle.ndp_options.specs.Walk.{walk, walkFrom, stepOf}
@@ -31,8 +31,8 @@ abbrev pub optionsFrom : Icmpv6PayloadSlice → List ℕ → List ℕ
 optionsFrom message packet = drop (message .«options_at») packet
 
 pub record WholePacket (packet : List ℕ) (message : Icmpv6PayloadSlice) : Type 0 where
-  -- the head decodes to the kind of its type: behind the checksum stands the type, where an Unknown has 0
-  pub kind : let type = getD packet 0 0 in decodeOf packet ≡ gives (checksumAt packet ∷ type ∷ fieldsOf type 0 (fieldsAt packet))
+  -- the head decodes to the kind of its type: behind checksum and bytes 4 to 7 stands the type, where an Unknown has 0
+  pub kind : let type = getD packet 0 0 in decodeOf packet ≡ gives (checksumAt packet ∷ wordAt packet ∷ type ∷ fieldsOf type 0 (fieldsAt packet))
   -- and so does what was handed on
   pub same : payloadKindNumber (message .kind) ≡ getD packet 0 0
   -- the fixed part is there, and the options begin behind it

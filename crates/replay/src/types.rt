@@ -104,11 +104,13 @@ pub(crate) fn icmp_type(input: &[u8]) -> Told {
 }
 
 fn bytes_told(t: Icmpv6Type, checksum: u16) -> Told {
+    // Whatever a header kept: the crate's has nothing to keep, and clears.
     let h = Icmpv6Header {
         icmp_type: t,
         checksum,
+        bytes5to8: 4294967295,
     };
-    let b = h.to_bytes();
+    let b = h.to_bytes_clearing();
     tell(
         5,
         0,

@@ -1,4 +1,4 @@
--- A message of Neighbor Discovery that the writer wrote passes the receive check's tests 1 to 5 at hop limit 255: its checksum is computed, its code
+-- A message of Neighbor Discovery that the writer wrote, whichever way, passes the receive check's tests 1 to 5 at hop limit 255: its checksum is computed, its code
 -- is 0, its fixed part is there and its options walk clean. What is left are its type's own reasons, which the caller's addresses decide.
 -- Assumes nothing.
 use Prim.Native.Nat.{ℕ, _+_, _≤_}
@@ -13,6 +13,8 @@ use Rattle.message_table.specs.Table.{fixedLen, isNdp}
 use Rattle.icmpv6_type.specs.declared.Icmpv6Type.{Icmpv6Type}
 use Rattle.icmpv6_type.specs.Value.{kindNumber, typeNumber, codeNumber}
 use Rattle.icmpv6_type.specs.Reserved.{Fits}
+use Rattle.icmpv6.specs.declared.icmpv6_header.Icmpv6Header.{Icmpv6Header}
+use Rattle.icmpv6.specs.Head.{Way}
 use Rattle.checksum.specs.Running.{Bytes}
 use Rattle.checksum.specs.Fields.{isValid}
 use Rattle.ndp_options.specs.Walk.{walk}
@@ -25,7 +27,7 @@ use Rattle.receive.proofs.Types.{ndp-kind}
 use Rattle.receive.proofs.Theorems.{own-alone}
 use Rattle.icmpv6_payload_slice.specs.Dispatch.{optionsIn}
 use Rattle.icmpv6_payload_slice.proofs.Agree.{same-options}
-use Rattle.writer.specs.Write.{payloadOptions, packetOf, writeOf}
+use Rattle.writer.specs.Write.{payloadOptions, packetBy, writeOf}
 use Rattle.writer.proofs.Accepted.{accepted}
 use Rattle.writer.proofs.Sent.{payload-kept, length-is, validates}
 use Rattle.sent_received.specs.Sent.{Ndp, routerSolicitation, routerAdvertisement, neighborSolicitation, neighborAdvertisement, redirect}
@@ -43,28 +45,31 @@ head neighborSolicitation = record { ndp = refl; code = refl; same = refl }
 head (neighborAdvertisement h) = record { ndp = refl; code = refl; same = refl }
 head redirect = record { ndp = refl; code = refl; same = refl }
 
-module _ {t : Icmpv6Type} (is : Ndp t) (source destination payload out v : List ℕ) (written : writeOf t payload out ≡ gives v)
-    (fits : Fits t) (hs : Bytes source) (hd : Bytes destination) (hp : Bytes payload) where
+module _ (w : Way) (header : Icmpv6Header) (is : Ndp (header .«icmp_type»)) (source destination payload out v : List ℕ) (written : writeOf (header .«icmp_type») payload out ≡ gives v)
+    (fits : Fits (header .«icmp_type»)) (hs : Bytes source) (hd : Bytes destination) (hp : Bytes payload) where
+  abbrev t : Icmpv6Type
+  t = header .«icmp_type»
+
   abbrev packet : List ℕ
-  packet = packetOf source destination t payload
+  packet = packetBy w source destination header payload
 
   -- the check is handed the options that the writer walked: the dispatch by bytes and that by value place them alike
   options-found : check.packetOptions packet ≡ payloadOptions t payload
   options-found =
       let h = head is in
-      let n = length-is source destination t payload in
+      let n = length-is w source destination header payload in
       ap (λ (k : ℕ). optionsIn 8 k packet) (ndp-kind packet (h .ndp) (h .code) ∙ sym (h .same))
       ∙ same-options (kindNumber t) packet (omega (arith, n))
-      ∙ ap (optionsIn 0 (kindNumber t)) (payload-kept source destination t payload)
+      ∙ ap (optionsIn 0 (kindNumber t)) (payload-kept w source destination header payload)
 
   pub received : receiveOf 255 source destination packet ≡ answerBy packet (firstOf (ownOf (typeNumber t) source destination packet (occurs 1 (walk (payloadOptions t payload) .items))))
   received =
       let ok = accepted t payload out v written in
       let h = head is in
-      let n = length-is source destination t payload in
+      let n = length-is w source destination header payload in
       let within : Between (length packet) = record { low = omega (arith, n); high = omega (arith, n, ok .within) } in
       let some : fixedLen (typeNumber t) ≤ length payload = rw (h .same) at (ok .present) in
       let there : 8 + fixedLen (typeNumber t) ≤ length packet = omega (arith, n) in
-      own-alone 255 source destination packet within (h .ndp) refl (ap isValid (validates source destination t payload fits (ok .named) (ok .within) hp hs hd)) (h .code) there
+      own-alone 255 source destination packet within (h .ndp) refl (ap isValid (validates w source destination header payload fits (ok .named) (ok .within) hp hs hd)) (h .code) there
       (ap (λ (l : List ℕ). walk l .ending) options-found ∙ ok .walks)
       ∙ ap (λ (l : List ℕ). answerBy packet (firstOf (ownOf (typeNumber t) source destination packet (occurs 1 (walk l .items))))) options-found

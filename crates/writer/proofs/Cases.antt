@@ -13,13 +13,15 @@ use Rattle.icmpv6_headers.specs.declared.neighbor_advertisement_header.Neighbor
 use Rattle.checksum.specs.Ones.{_⊕_}
 use Rattle.checksum.specs.Icmpv6.{sumOf, checksumOf}
 use Rattle.checksum.proofs.Cases.{router, everyone}
+use Rattle.icmpv6.specs.Head.{byDefault}
+use Rattle.icmpv6_checksum.specs.Header.{madeOf}
 use Rattle.icmpv6_payload_slice.specs.Dispatch.{payloadOf}
 use Rattle.ndp_walk.specs.Judge.{judge}
 use Rattle.ndp_walk.specs.Walk.{walkOn, walkFrom}
 use Rattle.ndp_options.specs.Rule.{rule}
 use Rattle.ndp_option_list.specs.Whole.{wholeOf}
-use Rattle.output.specs.Output.{roomFor, over, leaves}
-use Rattle.writer.specs.Write.{sendableOf, packetOf, writeOf}
+use Rattle.output.specs.Output.{roomFor, over}
+use Rattle.writer.specs.Write.{sendableOf, writeOf, outputBy}
 
 pub record Case : Type 0 where
   pub got : List ℕ
@@ -32,7 +34,7 @@ zeros n = replicate n 0
 abbrev written : Icmpv6Type → List ℕ → List ℕ → List ℕ
 written t payload out =
     let answer = writeOf t payload out in
-    answer .number ∷ (answer .values ++ leaves answer out 0 (packetOf router everyone t payload))
+    answer .number ∷ (answer .values ++ outputBy byDefault (madeOf t) router everyone payload out)
 
 abbrev case : List ℕ → List ℕ → Case
 case got wanted = record { got = got; wanted = wanted }

@@ -1,34 +1,28 @@
--- Within the writer's limit the header of a value is made, with the checksum that is computed for it.
+-- Within the writer's limit a checksum is computed for the head that a way writes; set in that head, it makes the sealed one.
 -- Assumes nothing.
-use Prim.Native.Nat.{ℕ, _≤_}
+use Prim.Native.Nat.{ℕ, _/_, _%_, _≤_}
 use native.Mathlib.Omega.{arith}
 use mathlib.Core.Path.{_≡_, ap, _∙_}
-use mathlib.Core.List.{List, _∷_, _++_}
-use lib.ListN.{length}
+use mathlib.Core.List.{List, [], _∷_, _++_}
+use lib.ListN.{length, set}
 use borrow.Author.Tests.{eqb-false}
-use Rattle.paper.specs.Paper.{Paper, gives}
+use Rattle.paper.specs.Paper.{Paper, gives, value}
 use Rattle.refusal.specs.declared.Refusal.{Refusal}
 use Rattle.refusal.specs.Paper.{refusal}
 use Rattle.refusal.proofs.Paper.{refusal-numbered}
-use Rattle.icmpv6_type.specs.declared.Icmpv6Type.{Icmpv6Type}
-use Rattle.icmpv6_type.specs.Value.{typeTold}
 use Rattle.icmpv6.specs.declared.icmpv6_header.Icmpv6Header.{Icmpv6Header}
-use Rattle.icmpv6.specs.Head.{encodeOf, headerTold}
-use Rattle.icmpv6.proofs.Paper.{header-lossless}
+use Rattle.icmpv6.specs.Head.{Way, encodeBy}
 use Rattle.checksum.specs.Icmpv6.{checksumOf}
-use Rattle.icmpv6_checksum.specs.Header.{headOf, withOf}
-use Rattle.icmpv6_checksum.proofs.Validity.{with-gives}
+use Rattle.icmpv6_checksum.specs.Header.{calcBy}
+use Rattle.icmpv6_checksum.proofs.Validity.{calc-gives}
 use Rattle.writer.specs.Write.{sealedHead}
 
-module _ (source destination : List ℕ) (t : Icmpv6Type) (payload : List ℕ) (room : length payload ≤ 65527) where
-  made : withOf source destination t payload ≡ gives (checksumOf source destination (headOf t ++ payload) ∷ typeTold t)
-  made = with-gives source destination t payload (omega arith)
+module _ (w : Way) (source destination : List ℕ) (h : Icmpv6Header) (payload : List ℕ) (room : length payload ≤ 65527) where
+  computed : calcBy w source destination h payload ≡ gives (checksumOf source destination (encodeBy w h ++ payload) ∷ [])
+  computed = calc-gives w source destination h payload (omega arith)
 
-  pub sealed : (h : Icmpv6Header) → gives (headerTold h) ≡ withOf source destination t payload → encodeOf h ≡ sealedHead source destination t payload
-  sealed h e =
-      ap encodeOf
-      (header-lossless h (record { «icmp_type» = t; checksum = checksumOf source destination (headOf t ++ payload) })
-      (ap (λ (p : Paper). p .values) (e ∙ made)))
+  pub sealed : (n : ℕ) → gives (n ∷ []) ≡ calcBy w source destination h payload → set (set (encodeBy w h) 2 (n / 256 % 256)) 3 (n % 256) ≡ sealedHead w source destination h payload
+  sealed n e = ap (λ (m : ℕ). set (set (encodeBy w h) 2 (m / 256 % 256)) 3 (m % 256)) (ap (value 0) (e ∙ computed))
 
-  pub never-refused : (why : Refusal) → refusal why ≡ withOf source destination t payload → ⊥
-  never-refused why e = eqb-false (refusal why .number) 0 (refusal-numbered why) (ap (λ (p : Paper). p .number) (e ∙ made))
+  pub never-refused : (why : Refusal) → refusal why ≡ calcBy w source destination h payload → ⊥
+  never-refused why e = eqb-false (refusal why .number) 0 (refusal-numbered why) (ap (λ (p : Paper). p .number) (e ∙ computed))

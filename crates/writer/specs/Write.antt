@@ -11,9 +11,9 @@ use Rattle.refusal.specs.Paper.{refusal}
 use Rattle.icmpv6_type.specs.declared.Icmpv6Type.{Icmpv6Type}
 use Rattle.icmpv6_type.specs.Value.{kindNumber, typeNumber, codeNumber}
 use Rattle.icmpv6_type.specs.Reserved.{misnamed}
-use Rattle.icmpv6.specs.Head.{encodeOf}
-use Rattle.checksum.specs.Icmpv6.{checksumOf}
-use Rattle.icmpv6_checksum.specs.Header.{headOf}
+use Rattle.icmpv6.specs.declared.icmpv6_header.Icmpv6Header.{Icmpv6Header}
+use Rattle.icmpv6.specs.Head.{Way, encodeBy}
+use Rattle.icmpv6_checksum.specs.Header.{withSum}
 use Rattle.icmpv6_payload_slice.specs.Dispatch.{optionsAt, optionsIn, byValue}
 use Rattle.ndp_option_list.specs.Whole.{countOf}
 use Rattle.output.specs.declared.Written.{Written}
@@ -46,17 +46,18 @@ sendableOf t payload =
 abbrev pub writeOf : Icmpv6Type → List ℕ → List ℕ → Paper
 writeOf t payload out = sendableOf t payload orElse roomFor (8 + length payload) out 0
 
--- the head with the checksum that is computed for it with its field 0, and the payload
-abbrev pub sealedHead : List ℕ → List ℕ → Icmpv6Type → List ℕ → List ℕ
-sealedHead source destination t payload =
-    encodeOf (record { «icmp_type» = t; checksum = checksumOf source destination (headOf t ++ payload) })
+-- the head that a way writes of a header, with the checksum of the bytes that it writes; the header's own field is not looked at
+abbrev pub sealedHead : Way → List ℕ → List ℕ → Icmpv6Header → List ℕ → List ℕ
+sealedHead w source destination h payload = encodeBy w (withSum w source destination h payload)
 
-abbrev pub packetOf : List ℕ → List ℕ → Icmpv6Type → List ℕ → List ℕ
-packetOf source destination t payload = sealedHead source destination t payload ++ payload
+-- and the payload
+abbrev pub packetBy : Way → List ℕ → List ℕ → Icmpv6Header → List ℕ → List ℕ
+packetBy w source destination h payload = sealedHead w source destination h payload ++ payload
 
 -- what the output then holds: the packet at its start, or what it held before
-abbrev pub outputOf : Icmpv6Type → List ℕ → List ℕ → List ℕ → List ℕ → List ℕ
-outputOf t source destination payload out = leaves (writeOf t payload out) out 0 (packetOf source destination t payload)
+abbrev pub outputBy : Way → Icmpv6Header → List ℕ → List ℕ → List ℕ → List ℕ → List ℕ
+outputBy w h source destination payload out =
+    leaves (writeOf (h .«icmp_type») payload out) out 0 (packetBy w source destination h payload)
 
 abbrev pub sendableTold : Sendable → Paper
 sendableTold Yes = gives []

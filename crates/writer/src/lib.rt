@@ -1,9 +1,11 @@
-// The packet writer (docs/RULES.md T1 to T5): a type value, both addresses and a payload, into a lent buffer.
+// The packet writer (docs/RULES.md T1 to T5, T9): a header record, both addresses and a payload, into a lent buffer.
 ghost use mathlib.Core.Path.{_≡_};
 ghost use Rattle.icmpv6_type.specs.Reserved.{misnamed};
+ghost use Rattle.icmpv6.specs.Head.{Clearing, Keeping, byDefault};
 ghost use Rattle.output.specs.Output.{writtenTold};
-ghost use Rattle.writer.specs.Write.{sendableTold, sendableOf, writeOf, outputOf};
-use icmpv6_checksum::HeaderMade;
+ghost use Rattle.writer.specs.Write.{sendableTold, sendableOf, writeOf, outputBy};
+use checksum::Computed;
+use icmpv6::icmpv6_header::Icmpv6Header;
 use icmpv6_payload_slice::Icmpv6PayloadSlice;
 use icmpv6_payload_slice::PayloadRead;
 use icmpv6_type::Icmpv6Type;
@@ -67,17 +69,19 @@ fn check(icmp_type: Icmpv6Type, payload: &[u8]) -> Sendable
     }
 }
 
-// Writes a packet at the start of the output and returns its length. A refusal leaves every byte as it was.
-pub fn write_packet(
-    icmp_type: Icmpv6Type,
+// Writes a packet at the start of the output, with the reserved bits that the header kept, and returns its length. A refusal leaves every byte as it
+// was.
+fn write_kept(
+    header: Icmpv6Header,
     source: &[u8; 16],
     destination: &[u8; 16],
     payload: &[u8],
     out: &mut [u8],
 ) -> Written
-    ensures answers { λ r. ⌜ writtenTold r ≡ writeOf «icmp_type» (now (payload .entry)) (now (out .entry)) ⌝ }
-    ensures lent { λ r. ⌜ now (out .exit) ≡ outputOf «icmp_type» (now (source .entry)) (now (destination .entry)) (now (payload .entry)) (now (out .entry)) ⌝ }
+    ensures answers { λ r. ⌜ writtenTold r ≡ writeOf (header .«icmp_type») (now (payload .entry)) (now (out .entry)) ⌝ }
+    ensures lent { λ r. ⌜ now (out .exit) ≡ outputBy Keeping header (now (source .entry)) (now (destination .entry)) (now (payload .entry)) (now (out .entry)) ⌝ }
 {
+    let icmp_type = header.icmp_type;
     match check(icmp_type, payload) {
         Sendable::Refused(why) => Written::Refused(why),
         Sendable::Yes => {
@@ -85,15 +89,66 @@ pub fn write_packet(
             if out.len() < needed {
                 return Written::Refused(Refusal::ShortOutput { needed });
             }
-            match icmpv6_checksum::with_checksum(icmp_type, payload, source, destination) {
-                HeaderMade::Header(header) => {
-                    let head = header.to_bytes();
+            let mut head = header.to_bytes_keeping();
+            match checksum::checksum_of(head, payload, source, destination) {
+                Computed::Checksum(sum) => {
+                    let field = wire::u16_to_be(sum);
+                    head[2] = field[0];
+                    head[3] = field[1];
                     output::put(out, 0, &head);
                     output::put(out, 8, payload)
                 }
                 // Never: the payload is within the sum's limit.
-                HeaderMade::Refused(why) => Written::Refused(why),
+                Computed::Refused(why) => Written::Refused(why),
             }
         }
     }
+}
+
+// Writes a packet at the start of the output, with 0 in every reserved bit, and returns its length. A refusal leaves every byte as it was.
+pub fn write_packet_clearing(
+    header: Icmpv6Header,
+    source: &[u8; 16],
+    destination: &[u8; 16],
+    payload: &[u8],
+    out: &mut [u8],
+) -> Written
+    ensures answers { λ r. ⌜ writtenTold r ≡ writeOf (header .«icmp_type») (now (payload .entry)) (now (out .entry)) ⌝ }
+    ensures lent { λ r. ⌜ now (out .exit) ≡ outputBy Clearing header (now (source .entry)) (now (destination .entry)) (now (payload .entry)) (now (out .entry)) ⌝ }
+{
+    let icmp_type = header.icmp_type;
+    let nothing_kept = Icmpv6Header {
+        icmp_type,
+        checksum: header.checksum,
+        bytes5to8: 0,
+    };
+    write_kept(nothing_kept, source, destination, payload, out)
+}
+
+// The same with the reserved bits that the header kept: for a packet that is passed on.
+pub fn write_packet_keeping(
+    header: Icmpv6Header,
+    source: &[u8; 16],
+    destination: &[u8; 16],
+    payload: &[u8],
+    out: &mut [u8],
+) -> Written
+    ensures answers { λ r. ⌜ writtenTold r ≡ writeOf (header .«icmp_type») (now (payload .entry)) (now (out .entry)) ⌝ }
+    ensures lent { λ r. ⌜ now (out .exit) ≡ outputBy Keeping header (now (source .entry)) (now (destination .entry)) (now (payload .entry)) (now (out .entry)) ⌝ }
+{
+    write_kept(header, source, destination, payload, out)
+}
+
+// The same by the default, which clears.
+pub fn write_packet(
+    header: Icmpv6Header,
+    source: &[u8; 16],
+    destination: &[u8; 16],
+    payload: &[u8],
+    out: &mut [u8],
+) -> Written
+    ensures answers { λ r. ⌜ writtenTold r ≡ writeOf (header .«icmp_type») (now (payload .entry)) (now (out .entry)) ⌝ }
+    ensures lent { λ r. ⌜ now (out .exit) ≡ outputBy byDefault header (now (source .entry)) (now (destination .entry)) (now (payload .entry)) (now (out .entry)) ⌝ }
+{
+    write_packet_clearing(header, source, destination, payload, out)
 }

@@ -12,10 +12,11 @@ use Rattle.checksum_vectors.proofs.run_capture.Statement.{statement}
 use Rattle.checksum_vectors.proofs.run_capture.Tie as tie
 
 abbrev Inv-loop : tie.InvT-loop
-Inv-loop records at₀ number₀ headers₀ survivors₀ at number headers survivors = (at ≤ length records) × (number ≤ at) × (headers ≤ at) × (survivors ≤ 2048 * at)
+Inv-loop records at₀ number₀ cleared₀ kept₀ survivors₀ at number cleared kept survivors =
+    (at ≤ length records) × (number ≤ at) × (cleared ≤ at) × (kept ≤ at) × (survivors ≤ 2048 * at)
 
 abbrev μ-loop : tie.MeasureT-loop
-μ-loop records at₀ number₀ headers₀ survivors₀ at number headers survivors = length records - at
+μ-loop records at₀ number₀ cleared₀ kept₀ survivors₀ at number cleared kept survivors = length records - at
 
 -- the record that was found, and where it ends
 abbrev Here : tie.After-found Inv-loop μ-loop → Type 0
@@ -46,29 +47,35 @@ say-place-requires c κs = search needs
 run-record-requires : tie.Need-run-record-requires Inv-loop μ-loop
 run-record-requires c κs = search needs
 
-add-headers : tie.Need-add-headers Inv-loop μ-loop
-add-headers c =
+add-cleared : tie.Need-add-cleared Inv-loop μ-loop
+add-cleared c =
     let f = c .before .before .before .before in
     let l = f .before .before .before in
     omega (arith, c .before .run-record .ensures, l .loop .inv, l .before .before .pre)
 
-add-survivors : tie.Need-add-survivors Inv-loop μ-loop
-add-survivors c =
+add-kept : tie.Need-add-kept Inv-loop μ-loop
+add-kept c =
     let f = c .before .before .before .before .before in
     let l = f .before .before .before in
     omega (arith, c .before .before .run-record .ensures, l .loop .inv, l .before .before .pre)
 
+add-survivors : tie.Need-add-survivors Inv-loop μ-loop
+add-survivors c =
+    let f = c .before .before .before .before .before .before in
+    let l = f .before .before .before in
+    omega (arith, c .before .before .before .run-record .ensures, l .loop .inv, l .before .before .pre)
+
 loop-less : tie.Need-loop-less Inv-loop μ-loop
 loop-less c =
-    let f = c .before .before .before .before .before in
+    let f = c .before .before .before .before .before .before in
     omega (arith, here f .next, here f .within)
 
 loop-again : tie.Need-loop-again Inv-loop μ-loop
 loop-again c =
-    let f = c .before .before .before .before .before in
+    let f = c .before .before .before .before .before .before in
     let l = f .before .before .before in
-    let r = c .before .before .run-record .ensures in
-    (omega (arith, here f .next, here f .within), omega (arith, here f .next, l .loop .inv), omega (arith, here f .next, l .loop .inv, r), omega (arith, here f .next, l .loop .inv, r))
+    let r = c .before .before .before .run-record .ensures in
+    (omega (arith, here f .next, here f .within), omega (arith, here f .next, l .loop .inv), omega (arith, here f .next, l .loop .inv, r), omega (arith, here f .next, l .loop .inv, r), omega (arith, here f .next, l .loop .inv, r))
 
 enum-told : tie.Need-enum-told Inv-loop μ-loop
 enum-told c = search needs
@@ -103,7 +110,8 @@ run-capture-spec =
     add-number
     say-place-requires
     run-record-requires
-    add-headers
+    add-cleared
+    add-kept
     add-survivors
     loop-less
     loop-again

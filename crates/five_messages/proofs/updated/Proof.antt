@@ -46,9 +46,9 @@ use denote.Triple.Clauses.{ensured, lasts}
 use borrow.Table.OneValue.{part-in, part-out}
 use Rattle.checksum.specs.Told.{computed}
 use Rattle.checksum.specs.declared.Computed.{Computed}
-use Rattle.icmpv6.specs.Head.{headerTold}
+use Rattle.icmpv6.specs.Head.{byDefault, headerTold}
 use Rattle.icmpv6.specs.declared.icmpv6_header.Icmpv6Header.{Icmpv6Header}
-use Rattle.icmpv6_checksum.specs.Header.{calcOf, headerAfter}
+use Rattle.icmpv6_checksum.specs.Header.{calcBy, headerAfter}
 use Rattle.checksum.proofs.Computed as C
 use Rattle.checksum.proofs.Computed.Laws as C′
 use Rattle.icmpv6.proofs.icmpv6_header.Icmpv6Header as T
@@ -120,7 +120,7 @@ module _ {M : Type 1} (𝓤 : URA M) (H : Heap 𝓤) (A : Atoms 𝓤) (W : Given
 
   -- what is known of the answer and of the header afterwards
   abbrev Said : Computed → Icmpv6Header → Type 0
-  Said r d = (computed r ≡ calcOf (now src) (now dst) (h .«icmp_type») (now p)) × (headerTold d ≡ headerAfter (calcOf (now src) (now dst) (h .«icmp_type») (now p)) (headerTold h))
+  Said r d = (computed r ≡ calcBy byDefault (now src) (now dst) h (now p)) × (headerTold d ≡ headerAfter (calcBy byDefault (now src) (now dst) h (now p)) (headerTold h))
 
   exits : Is T.the-row h (mach ∷ []) → (r : HeaderUpdated) → Is O.the-row r (LL.vals O.the-type O′.the-laws r) → Said (r .answer) (r .header)
       → ent 𝓤 (⋆ 𝓤 H A ((‵ (flft κₚ qₚ) ⊛ ‵ (flft κₛ qₛ) ⊛ ‵ (flft κₜ qₜ) ⊛ ‵ ftrue) ∷ ‵ Own ∷ [])) (Post (LL.val O.the-type O′.the-laws r))

@@ -1,6 +1,7 @@
 -- `calc_checksum` meets its contract: the head that is summed is that of a new header.
 -- Assumes nothing.
 use Rattle.icmpv6.proofs.Paper.{header-lossless}
+use Rattle.icmpv6_checksum.specs.Header.{madeOf}
 use borrow.Author.Needs.{needs}
 use Rattle.icmpv6_checksum.proofs.calc_checksum.Statement.{statement}
 use Rattle.icmpv6_checksum.proofs.calc_checksum.Tie as tie
@@ -17,7 +18,7 @@ checksum-of-requires c κs = search needs
 returns : tie.Need-returns
 returns c =
     let new = c .before .before .new in
-    rw (c .before .to-bytes .ensures, header-lossless (new .result) (record { «icmp_type» = c .before .before .before .before .args .t; checksum = 0 }) (new .ensures))
+    rw (c .before .to-bytes .ensures, header-lossless (new .result) (madeOf (c .before .before .before .before .args .t)) (new .ensures))
     at (c .checksum-of .ensures)
 
 pub calc-checksum-spec : {M : Type 1} → statement M

@@ -43,10 +43,10 @@ use denote.Exit.{yes}
 use denote.Triple.Clauses.{ensured, lasts}
 use Rattle.checksum.specs.Told.{computed}
 use Rattle.checksum.specs.declared.Computed.{Computed}
-use Rattle.icmpv6.specs.Head.{headerTold}
+use Rattle.icmpv6.specs.Head.{byDefault, headerTold}
 use Rattle.icmpv6.specs.declared.icmpv6_header.Icmpv6Header.{Icmpv6Header}
 use Rattle.paper.specs.Paper.{Paper}
-use Rattle.icmpv6_checksum.specs.Header.{calcOf, headerAfter}
+use Rattle.icmpv6_checksum.specs.Header.{calcBy, headerAfter}
 use Rattle.checksum.proofs.Computed as C
 use Rattle.checksum.proofs.Computed.Laws as C′
 use Rattle.icmpv6.proofs.icmpv6_header.Icmpv6Header as T
@@ -150,7 +150,7 @@ module _ {M : Type 1} (𝓤 : URA M) (H : Heap 𝓤) (A : Atoms 𝓤) (W : Given
       nothing ! $ move ! (1 ∷ 0 ∷ []) $ fjoin ! $ move ! (1 ∷ 0 ∷ []) $ fjoin ! $ move ! (1 ∷ 0 ∷ []) $ fjoin ! $ done !
 
   abbrev Said : Computed → Type 0
-  Said r = computed r ≡ calcOf (now src) (now dst) (h .«icmp_type») (now p)
+  Said r = computed r ≡ calcBy byDefault (now src) (now dst) h (now p)
 
   said : (r : Computed) → ent 𝓤 (ensured 𝓤 H A sums.ended (sums.clauses 𝓤 H A at-mem run) (κₚ, (κₛ, (κₜ, tt))) given tt r) (fact 𝓤 (Said r))
   said r = exE 𝓤 _ (λ ws. snd∗ 𝓤 (sem 𝓤 H A (lasts sums.ended (κₚ, (κₛ, (κₜ, tt))) given ws)) (fact 𝓤 (Said r)))

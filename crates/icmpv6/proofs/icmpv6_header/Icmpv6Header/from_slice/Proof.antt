@@ -53,13 +53,28 @@ shared-slice-read-u16-from-be-4 c = omega (arith, fits (c .before .before .befor
 u16-from-be-requires : tie.Need-u16-from-be-requires
 u16-from-be-requires c κs = search needs
 
+array-read-u32-from-be : tie.Need-array-read-u32-from-be
+array-read-u32-from-be c = search needs
+
+array-read-u32-from-be-2 : tie.Need-array-read-u32-from-be-2
+array-read-u32-from-be-2 c = search needs
+
+array-read-u32-from-be-3 : tie.Need-array-read-u32-from-be-3
+array-read-u32-from-be-3 c = search needs
+
+array-read-u32-from-be-4 : tie.Need-array-read-u32-from-be-4
+array-read-u32-from-be-4 c = search needs
+
+u32-from-be-requires : tie.Need-u32-from-be-requires
+u32-from-be-requires c κs = search needs
+
 returns : tie.Need-returns
 unfolding decodeOf
 returns c = rw (refused _ (c .before .why .given .0 .0) (ap lengthTold (sym (c .before .why .given .1)) ∙ c .before .before .before .check-len .ensures))
 
 returns-2 : tie.Need-returns-2
 unfolding decodeOf
-returns-2 c = let f = fits (c .before .before .before .before .before .before .before .before .before .before) in rw (sized-fits _ (f .low) (f .high), c .u16-from-be .ensures, c .before .before .before .from-parts .ensures)
+returns-2 c = let f = fits (c .before .before .before .before .before .before .before .before .before .before .before) in rw (sized-fits _ (f .low) (f .high), c .u32-from-be .ensures, c .before .u16-from-be .ensures, c .before .before .before .before .from-parts .ensures)
 
 pub from-slice-spec : {M : Type 1} → statement M
 from-slice-spec =
@@ -78,5 +93,10 @@ from-slice-spec =
     shared-slice-read-u16-from-be-3
     shared-slice-read-u16-from-be-4
     u16-from-be-requires
+    array-read-u32-from-be
+    array-read-u32-from-be-2
+    array-read-u32-from-be-3
+    array-read-u32-from-be-4
+    u32-from-be-requires
     returns
     returns-2)

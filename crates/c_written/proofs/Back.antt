@@ -9,8 +9,8 @@ use Rattle.output.specs.Output.{writtenTold}
 use Rattle.output.specs.declared.Written.{Written as WrittenAnswer}
 use Rattle.output.specs.declared.Written.the-variants.{To, Refused as NotWritten}
 use Rattle.c_answer.specs.Answer.{WRITTEN}
-use Rattle.c_write.specs.declared.Written.{Written}
-use Rattle.c_write.specs.Written.{writtenFor}
+use Rattle.c_written.specs.declared.Written.{Written}
+use Rattle.c_written.specs.Written.{writtenFor}
 
 abbrev writtenFrom : Written → WrittenAnswer
 writtenFrom w = cond (eqb (w .answer) WRITTEN) (To (w .length)) (NotWritten (why (w .refusal) (w .value)))

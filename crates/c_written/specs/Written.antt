@@ -1,4 +1,4 @@
--- The packet writer for C: the value is that of the type, the code and bytes 4 to 7 as one number, and the answer the length that was written.
+-- The packet writer for C: the header is that of the type, the code and bytes 4 to 7 as one number, and the answer the length that was written.
 -- Assumes nothing.
 use Prim.Native.Nat.{ℕ}
 use mathlib.Core.Bool.{cond}
@@ -10,11 +10,16 @@ use Rattle.refusal.specs.Paper.{slots}
 use Rattle.wire.specs.Wire.{bytes32}
 use Rattle.icmpv6_type.specs.declared.Icmpv6Type.{Icmpv6Type}
 use Rattle.icmpv6_type.specs.From as head
+use Rattle.icmpv6.specs.declared.icmpv6_header.Icmpv6Header.{Icmpv6Header}
 use Rattle.c_answer.specs.Answer.{REFUSED, WRITTEN, none}
-use Rattle.c_write.specs.declared.Written.{Written}
+use Rattle.c_written.specs.declared.Written.{Written}
 
 abbrev pub valueOfWord : ℕ → ℕ → ℕ → Icmpv6Type
 valueOfWord type code word = head.valueOf type code (bytes32 word)
+
+-- the value of the three, and bytes 4 to 7 beside it, as a header that was read has them
+abbrev pub headerOfWord : ℕ → ℕ → ℕ → Icmpv6Header
+headerOfWord type code word = record { «icmp_type» = valueOfWord type code word; checksum = 0; bytes5to8 = word }
 
 abbrev pub written : ℕ → ℕ → List ℕ → ℕ → Written
 written answer refusal value length = record { answer = answer; refusal = refusal; value = value; length = length }
