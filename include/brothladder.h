@@ -33,11 +33,11 @@
  * the packet, as a trace does. Only you know where in the packet your bytes begin: pass it as `offset`, or 0 to count from your own
  * first byte.
  *
- * Versions: this is version 3, in which the head has `bytes5to8` and wider fields. Version 2 brought the offset and the place; version 1
- * is the header without BROTHLADDER_VERSION. Under GCC and clang each object that includes this header refers to the call brothladder_version_3, so an
- * object that was compiled with the header of a later version does not link with this library, nor one of this version with a later
- * library. Objects of version 1 have no such reference: they would link, and go wrong. So compile all of them anew once. Each later
- * change of a struct, an argument or a meaning takes the next number.
+ * Versions: this is version 3, in which the head has `bytes5to8` and wider fields. Version 2 brought the offset and the place;
+ * version 1 is the header without BROTHLADDER_VERSION. Under GCC and clang each object that includes this header refers to the call
+ * brothladder_version_3, so an object that was compiled with the header of a later version does not link with this library, nor one
+ * of this version with a later library. Objects of version 1 have no such reference: they would link, and go wrong. So compile all
+ * of them anew once. Each later change of a struct, an argument or a meaning takes the next number.
  *
  * What you must ensure: each pointer can be read (`out`: written) for the length that goes with it, and an address for 16 bytes. A
  * pointer may be NULL only if its length is 0. Nobody else writes to a buffer during the call. `out` does not overlap another
@@ -159,7 +159,7 @@ struct brothladder_head {
     uint32_t code;
     uint32_t checksum;  /* the field as it stands in the packet */
     uint32_t bytes5to8; /* bytes 4 to 7 as they stand, as one number, high byte first: what brothladder_write_keeping takes */
-    uint32_t field[4]; /* by BROTHLADDER_FIELD_.. */
+    uint32_t field[4];  /* by BROTHLADDER_FIELD_.. */
 };
 
 struct brothladder_verified {

@@ -1,6 +1,7 @@
 /* The packet writer: its refusals, its limits, what it touches, and every message that damaged.c makes written again, each way. */
 #include "check.h"
 #include "plain.h"
+#include <stdio.h>
 #include <string.h>
 
 /* The default, which clears, and both ways by their names; and the same in plain C. */
@@ -104,19 +105,18 @@ static unsigned reserved_bits(uint8_t type, size_t fixed) {
     return reserved;
 }
 
+static const struct {
+    uint8_t type;
+    uint8_t fixed; /* the bytes behind the head that the type needs */
+    unsigned reserved;
+} bits_of[] = {{1, 0, 32}, {2, 0, 0}, {3, 0, 32}, {4, 0, 0}, {128, 0, 0}, {129, 0, 0}, {133, 0, 32}, {134, 8, 6}, {135, 16, 32}, {136, 16, 29}, {137, 32, 32}, {200, 0, 0}};
+
 static void write_bits(void) {
-    same("reserved bits of 1", reserved_bits(1, 0), 32);
-    same("reserved bits of 2", reserved_bits(2, 0), 0);
-    same("reserved bits of 3", reserved_bits(3, 0), 32);
-    same("reserved bits of 4", reserved_bits(4, 0), 0);
-    same("reserved bits of 128", reserved_bits(128, 0), 0);
-    same("reserved bits of 129", reserved_bits(129, 0), 0);
-    same("reserved bits of 133", reserved_bits(133, 0), 32);
-    same("reserved bits of 134", reserved_bits(134, 8), 6);
-    same("reserved bits of 135", reserved_bits(135, 16), 32);
-    same("reserved bits of 136", reserved_bits(136, 16), 29);
-    same("reserved bits of 137", reserved_bits(137, 32), 32);
-    same("reserved bits of 200", reserved_bits(200, 0), 0);
+    for (size_t i = 0; i < sizeof bits_of / sizeof *bits_of; i++) {
+        char name[32];
+        snprintf(name, sizeof name, "reserved bits of %u", bits_of[i].type);
+        same(name, reserved_bits(bits_of[i].type, bits_of[i].fixed), bits_of[i].reserved);
+    }
 }
 
 /* The checksum of one way does not go with the bytes of the other (docs/RULES.md S11). */
