@@ -475,3 +475,31 @@ def lookup(name):
         return None
     own = declared(file).get(m[4])
     return own or next((d for d in declarations(file) if m[4] in d.members), None)
+
+
+# ---- uniqueness
+
+SHARED = {"Only": ("Rattle.paper.specs.Only", "Only"), "OnlyBy": ("Rattle.paper.specs.Only", "OnlyBy"), "now": ("denote.Ref", "now")}
+
+
+def contract(f):
+    """The module that has the contract of a function."""
+    return f"Rattle.{f.crate}.proofs.{f.path.replace('::', '.')}"
+
+
+@functools.cache
+def unique_theorem(f):
+    """The theorem of a function in the proofs/Unique.antt that proofs/Lib.antt names, stated as tools/unique asks; None where there is none."""
+    file = modules(f.crate, "proofs").get("Unique")
+    for name, origin in uses(file).items() if file else []:
+        here = declared(file)
+        theorem = here.get(f"{name}-unique")
+        if origin != (contract(f), "") or theorem is None or theorem.under or theorem.kind != "def" or "pub" not in theorem.marks:
+            continue
+        # each word is the shared one: a declaration of its own cannot bear the name of one that is brought in
+        over = f"(λ M 𝓤. {name}.clauses 𝓤)"
+        forms = {f"{name}-unique : Only {name}.ended {over}": ["Only"], f"{name}-unique : OnlyBy {name}.ended (λ κs. now) {over}": ["OnlyBy", "now"]}
+        words = forms.get(" ".join(theorem.type.split()))
+        if words and all(uses(file).get(w) == SHARED[w] and w not in here for w in words):
+            return theorem.name
+    return None
