@@ -59,6 +59,7 @@ DEFINED = part("a definition", "hasFlag x w = eqb (x / w % 2) 1", "hasFlag x w =
 REDIRECT = part("a constant", "TYPE_REDIRECT_MESSAGE: u8 = 137", "TYPE_REDIRECT_MESSAGE: u8 = 138", "src/types.rt")
 ROW = part("the search goes on", "if row.kind == kind {", "if row.kind == 1 {")
 ROW_OPEN = part("a row left open", "r ≡ rowOf rows kind", "r ≡ r")
+OPEN_TYPE = part("two types meet the promise", "r ≡ typeNumber self", "r ≡ r")
 CODE_KNOWN = part("the code behind the last one is known", "code < row.codes", "code <= row.codes")
 DIGITS = part("digits", "let next = put_decimal(out, at, n / 100);", "let next = put_decimal(out, at, n / 10);")
 # what is tried; what tools/edits must say; the files that are written (no text: removed)
@@ -114,6 +115,9 @@ LOGS = [
     ("a fact that rattle does not prove", LOW, made("u16_to_be"), None),
     ("the requirement of a call named as an operation", WEIGHT, own("has_flag", "part-requires-2"), None),
     ("a lemma named as an operation", WEIGHT, own("has_flag") + "target/must-fail/wire/tried/proofs/Sums.antt:3:1: error: `add-one`: no proof\n", None),
+    ("a proof that does not join its facts", WEIGHT, own("has_flag", "has-flag-spec", "too few arguments"), "has_flag is not refused by itself"),
+    ("a function that no part touches is refused too", WEIGHT, own("has_flag") + own("flag_of"), "flag_of is refused, and no part touches it"),
+    ("a theorem that no part touches is refused too", OPEN, theorem("flag-of-unique") + theorem("has-flag-unique"), "has-flag-unique is refused, and no part touches it"),
     ("a lemma alone", WEIGHT, "target/must-fail/wire/tried/proofs/Sums.antt:3:1: error: `add-one`: no proof\n", "has_flag is not refused by itself"),
     ("a promise left open", OPEN, theorem("flag-of-unique"), None),
     ("a bound", WEIGHT, own("has_flag", "slice-write-out"), "shows nothing"),
@@ -147,6 +151,7 @@ LOGS = [
     ("a definition: nothing tells its refusals apart", DEFINED, "target/must-fail/wire/tried/proofs/Laws.antt:3:1: error: `x`: no proof\n", None),
     ("a constant, and a function that names it is refused", ("message_table", REDIRECT), own("row_of"), None),
     ("a constant, and a function that does not name it is refused", ("message_table", REDIRECT), own("is_known"), "types::TYPE_REDIRECT_MESSAGE is not refused by itself"),
+    ("a promise left open, and a function that calls it is refused too", ("icmpv6_type", OPEN_TYPE), theorem("type-u8-unique") + own("Icmpv6Type/kind_u8"), None),
     ("a constant beside a function that calls its user, each refused", ("message_table", REDIRECT + CODE_KNOWN), own("row_of") + own("is_known"), None),
     ("a constant beside a function that calls its user, one refused", ("message_table", REDIRECT + CODE_KNOWN), own("is_known"), "types::TYPE_REDIRECT_MESSAGE is not refused"),
     ("a function that calls itself", ("dump_lines", DIGITS), own("+put_decimal"), None),
