@@ -16,6 +16,7 @@ class Part:
     code: tuple          # the functions and constants whose code it changes
     promises: tuple      # the functions of which it changes a clause
     definitions: tuple   # the files of specs/ that it changes
+    signatures: tuple    # the functions of which it changes what stands before the clauses
 
     @property
     def kind(self):
@@ -25,7 +26,11 @@ class Part:
     def touched(self):
         """The functions whose proof may fail for this part: that of wrong code itself, of a promise also those that call the function, of a constant
         or a type those that name it."""
-        return {f for i in self.code for f in shown_by(i)} | {f for i in self.promises for f in [i.path, *callers(i)]}
+        return {f for i in self.code for f in self.shown_by(i)} | {f for i in self.promises for f in [i.path, *callers(i)]}
+
+    def shown_by(self, item):
+        """The functions whose own proof fails where the code of an item is wrong: of parameters that are exchanged also those that call the function."""
+        return shown_by(item) | (callers(item) if item in self.signatures else set())
 
 
 @dataclasses.dataclass(frozen=True)
@@ -58,12 +63,12 @@ def sums(text):
     return sorted(re.findall(r" (?:[-+*/%]=?|<<|>>|as) ", f" {text} "))
 
 
-def clause_at(item, line):
-    """Whether a line of a function is one of its clauses."""
-    body = item.last - item.body.count("\n")
+def place_in(item, line):
+    """Whether a line of a function is of its clauses, its signature or its code. That of another item is code."""
+    body = item.last - item.body.count("\n") if item.kind == "fn" else item.first
     lines = source.read(item.file).split("\n")
     clauses = [n for n in range(item.first, body) if re.match(r"\s*(ghost|requires|ensures)\b", lines[n])]
-    return bool(clauses) and clauses[0] <= line < body
+    return "code" if line >= body else "clause" if clauses and clauses[0] <= line else "signature"
 
 
 @functools.cache
@@ -122,16 +127,18 @@ def part(crate, wrong, changed, now):
         faults.append("it has no change")
     if touched and not faults and all(said(f, now[f]) == said(f, was.get(f, source.read(f))) for f, _ in touched):
         faults.append("it changes comments and white space alone")
-    code, promises, definitions = [], [], []
+    code, promises, definitions, signatures = [], [], [], []
     for path, line in touched:
         item = next((i for i in source.items(crate) if i.file == path and i.first <= line <= i.last), None)
         if item:
-            (promises if item.kind == "fn" and clause_at(item, line) else code).append(item)
+            place = place_in(item, line)
+            (promises if place == "clause" else code).append(item)
+            signatures += [item] if place == "signature" else []
         elif path.endswith(".antt") and not re.match(r"\s*use\b", source.read(path).split("\n")[line]):
             definitions.append(path)
     if code and sorted(before) != sorted(after):
         faults.append(f"the code's shape is another, and its proof does not fit: {sorted(before)} became {sorted(after)}")
-    found = Part(wrong, *(tuple(dict.fromkeys(x)) for x in (code, promises, definitions)))
+    found = Part(wrong, *(tuple(dict.fromkeys(x)) for x in (code, promises, definitions, signatures)))
     if found.kind == "other" and not faults:
         faults.append("it changes no function, constant or definition")
     return found, faults
@@ -148,7 +155,7 @@ def read(crate, label, text):
     for p in parts if len(parts) > 1 else []:
         if p.definitions:
             faults.append(f"a definition changes beside other parts, and nothing tells their refusals apart: {p.wrong}")
-        faults += [f"{i.path} may be refused for another part: {p.wrong}" for i in p.code if not shown_by(i) & whole.apart(p)]
+        faults += [f"{i.path} may be refused for another part: {p.wrong}" for i in p.code if not p.shown_by(i) & whole.apart(p)]
         faults += [f"{i.path} changes in two parts: {p.wrong}" for i in p.promises if any(i in q.promises + q.code for q in parts if q is not p)]
     return dataclasses.replace(whole, faults=tuple(faults))
 

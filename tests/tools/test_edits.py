@@ -61,6 +61,8 @@ ROW = part("the search goes on", "if row.kind == kind {", "if row.kind == 1 {")
 ROW_OPEN = part("a row left open", "r ≡ rowOf rows kind", "r ≡ r")
 OPEN_TYPE = part("two types meet the promise", "r ≡ typeNumber self", "r ≡ r")
 CODE_KNOWN = part("the code behind the last one is known", "code < row.codes", "code <= row.codes")
+EXCHANGED = part("parameters exchanged", "step_at(options: &[u8], offset: usize, at: usize)", "step_at(options: &[u8], at: usize, offset: usize)")
+STEP = part("a step elsewhere", "step_at(w.options, w.offset, w.at)", "step_at(w.options, w.at, w.at)")
 DIGITS = part("digits", "let next = put_decimal(out, at, n / 100);", "let next = put_decimal(out, at, n / 10);")
 # what is tried; what tools/edits must say; the files that are written (no text: removed)
 EDITS = [
@@ -97,6 +99,8 @@ EDITS = [
      {"crates/message_table/must-fail/tried.edit": REDIRECT + ROW}),
     ("wrong code that calls a function whose promise is left open", "message_table/tried: is_known may be refused for another part: the code behind the last one is known",
      {"crates/message_table/must-fail/tried.edit": ROW_OPEN + CODE_KNOWN}),
+    ("wrong code that calls a function whose parameters are exchanged", "ndp_walker/tried: step may be refused for another part: a step elsewhere",
+     {"crates/ndp_walker/must-fail/tried.edit": EXCHANGED + STEP}),
     ("a definition beside wrong code", "wire/tried: a definition changes beside other parts, and nothing tells their refusals apart: a definition",
      {WIRE + "tried.edit": DEFINED + LOW}),
     ("a public function whose code no edit changes", "wire::flag_of: no edit changes its code", without("wire", "flag_of")),
@@ -154,6 +158,8 @@ LOGS = [
     ("a promise left open, and a function that calls it is refused too", ("icmpv6_type", OPEN_TYPE), theorem("type-u8-unique") + own("Icmpv6Type/kind_u8"), None),
     ("a constant beside a function that calls its user, each refused", ("message_table", REDIRECT + CODE_KNOWN), own("row_of") + own("is_known"), None),
     ("a constant beside a function that calls its user, one refused", ("message_table", REDIRECT + CODE_KNOWN), own("is_known"), "types::TYPE_REDIRECT_MESSAGE is not refused"),
+    ("parameters exchanged, and a function that calls it is refused", ("ndp_walker", EXCHANGED), own("step"), None),
+    ("parameters exchanged, and a function that does not call it is refused", ("ndp_walker", EXCHANGED), own("rest"), "step_at is not refused by itself"),
     ("a function that calls itself", ("dump_lines", DIGITS), own("+put_decimal"), None),
     ("one of several functions that call one another", ("dump_lines", DIGITS), own("+put_decimal+put_few"), "put_decimal is not refused by itself"),
 ]
