@@ -1,5 +1,7 @@
-/* calls CAPTURE: each call for C and its counterpart in plain C, once each on two advertisements of a capture and on one of 1,240 bytes, between
-   two markers that the counting plugin sees (count.c). calls CAPTURE check: that all give the same answers. calls CAPTURE names: what was measured. */
+/* calls CAPTURE: each call for C and its counterpart in plain C, once each on two advertisements of a capture and on one of 1,240 bytes, and the
+   chain on three packets that quote others, between two markers that the counting plugin sees (count.c). calls CAPTURE check: that all give the
+   same answers. calls CAPTURE names: what was measured. calls CAPTURE stack: for each of the chain's deepest packets the bytes of stack that it was
+   seen to write to, and the refusal. */
 #include "plain.h"
 #include <stdio.h>
 #include <stdlib.h>
@@ -10,6 +12,7 @@ typedef struct brothladder_verified (*verify_fn)(const uint8_t *, size_t, const 
 typedef struct brothladder_received (*receive_fn)(const uint8_t *, size_t, uint8_t, const uint8_t *, const uint8_t *);
 typedef struct brothladder_stepped (*step_fn)(const uint8_t *, size_t, size_t, size_t);
 typedef struct brothladder_prefix (*prefix_fn)(const uint8_t *, size_t, size_t);
+typedef struct brothladder_chain (*chain_fn)(const uint8_t *, size_t);
 typedef struct brothladder_written (*write_fn)(uint8_t, uint8_t, uint32_t, const uint8_t *, size_t, const uint8_t *, const uint8_t *, uint8_t *, size_t);
 
 #define PLAIN(tag)                                                                                                          \
@@ -18,6 +21,7 @@ typedef struct brothladder_written (*write_fn)(uint8_t, uint8_t, uint32_t, const
     struct brothladder_received plain_receive_##tag(const uint8_t *, size_t, uint8_t, const uint8_t *, const uint8_t *);    \
     struct brothladder_stepped plain_step_##tag(const uint8_t *, size_t, size_t, size_t);                                   \
     struct brothladder_prefix plain_prefix_##tag(const uint8_t *, size_t, size_t);                                          \
+    struct brothladder_chain plain_chain_##tag(const uint8_t *, size_t);                                                    \
     struct brothladder_written plain_write_##tag(uint8_t, uint8_t, uint32_t, const uint8_t *, size_t, const uint8_t *,      \
                                                  const uint8_t *, uint8_t *, size_t);                                       \
     struct brothladder_written plain_write_keeping_##tag(uint8_t, uint8_t, uint32_t, const uint8_t *, size_t,               \
@@ -30,7 +34,7 @@ PLAIN(clang)
 struct brothladder_head nothing(const uint8_t *, size_t);
 __asm__(".text\n.globl nothing\nnothing: mov %rdi, %rax\nret\n");
 
-#define SET(name, p, t) {name, p##decode##t, p##verify##t, p##receive##t, p##step##t, p##prefix##t, p##write##t, p##write_keeping##t}
+#define SET(name, p, t) {name, p##decode##t, p##verify##t, p##receive##t, p##step##t, p##prefix##t, p##write##t, p##write_keeping##t, p##chain##t}
 static const struct set {
     const char *name;
     decode_fn decode;
@@ -39,16 +43,17 @@ static const struct set {
     step_fn step;
     prefix_fn prefix;
     write_fn write, keep;
+    chain_fn chain;
 } sets[] = {
-    {"nothing", nothing, (verify_fn)nothing, (receive_fn)nothing, (step_fn)nothing, (prefix_fn)nothing, (write_fn)nothing, (write_fn)nothing},
+    {"nothing", nothing, (verify_fn)nothing, (receive_fn)nothing, (step_fn)nothing, (prefix_fn)nothing, (write_fn)nothing, (write_fn)nothing, (chain_fn)nothing},
     {"this library", brothladder_decode, brothladder_verify, brothladder_receive, brothladder_step, brothladder_read_prefix, brothladder_write_clearing,
-     brothladder_write_keeping},
+     brothladder_write_keeping, brothladder_chain},
     SET("plain C, gcc -O2", plain_, _O2),
     SET("plain C, gcc -O3", plain_, _O3),
     SET("plain C, the toolchain's clang -O3", plain_, _clang),
 };
-enum { SETS = sizeof sets / sizeof *sets, CALLS = 7 };
-static const char *const calls[CALLS] = {"decode", "verify", "receive check", "walk", "prefix", "write", "write keeping"};
+enum { SETS = sizeof sets / sizeof *sets, CALLS = 8, CHAIN = 7 };
+static const char *const calls[CALLS] = {"decode", "verify", "receive check", "walk", "prefix", "write", "write keeping", "chain"};
 
 static inline void mark(long a, long b) {
     long r;
@@ -61,6 +66,7 @@ static struct brothladder_received received;
 static struct brothladder_stepped stepped;
 static struct brothladder_prefix prefix;
 static struct brothladder_written written, kept;
+static struct brothladder_chain chain;
 static uint8_t out[2048], whole[2048];
 static size_t options;
 
@@ -83,6 +89,7 @@ static __attribute__((noinline)) void measure(const struct set *s, int call, lon
         case 4: prefix = s->prefix(p + 16, 32, 16); break;
         case 5: written = s->write(p[0], p[1], (uint32_t)p[4] << 24 | (uint32_t)p[5] << 16 | (uint32_t)p[6] << 8 | p[7], p + 8, n - 8, r + 3, r + 19, out, sizeof out); break;
         case 6: kept = s->keep(p[0], p[1], (uint32_t)p[4] << 24 | (uint32_t)p[5] << 16 | (uint32_t)p[6] << 8 | p[7], p + 8, n - 8, r + 3, r + 19, whole, sizeof whole); break;
+        case CHAIN: chain = s->chain(p, n); break;
         }
         if (i) mark(id, (long)n);
     }
@@ -100,7 +107,7 @@ static int check(const uint8_t *r, size_t n) {
     for (int s = 1; s < SETS; s++) {
         memset(out, 0, sizeof out);
         memset(whole, 0, sizeof whole);
-        for (int c = 0; c < CALLS; c++) measure(&sets[s], c, -1, r, n);
+        for (int c = 0; c < CHAIN; c++) measure(&sets[s], c, -1, r, n);
         if (s == 1) {
             head0 = head, verified0 = verified, received0 = received, stepped0 = stepped, prefix0 = prefix, written0 = written, kept0 = kept, options0 = options;
             memcpy(out0, out, sizeof out);
@@ -131,10 +138,84 @@ static const uint8_t *longest(void) {
     return r;
 }
 
+/* records whose packets quote others: one echo request, one behind eight errors, and a real redirect, which a Linux router sent with the
+   link-layer address of its target and the echo request that it was about */
+enum { ONE = 56, EIGHT = 392, REDIRECT = 104, QUOTING = 3 };
+static const uint8_t redirect[REDIRECT + 1] =
+    "\x89\0\x9a\x27\0\0\0\0\xfe\x80\0\0\0\0\0\0\0\0\0\xff\xfe\0\1\3\x20\1\x0d\xb8\0\3\0\0\0\0\0\0\0\0\0\x33\2\1\2\0\0\0\1\3\4\7\0\0\0\0\0\0"
+    "\x60\2\xe0\x61\0\x08\x3a\x40\x20\1\x0d\xb8\0\1\0\0\0\0\0\0\0\0\0\x11\x20\1\x0d\xb8\0\3\0\0\0\0\0\0\0\0\0\x33\x80\0\x0d\x43\x16\xbf\0\1";
+
+static void nest(uint8_t *p, int deep) {
+    memset(p, 0, 8 + 48 * (size_t)deep);
+    for (int i = 0; i < deep; i++, p += 48) p[0] = 1, p[8] = 0x60, p[14] = 58;
+    p[0] = 128;
+}
+
+static const uint8_t *quoting(int k, size_t *n) {
+    static uint8_t r[37 + 512];
+    *n = (const size_t[]){ONE, EIGHT, REDIRECT}[k];
+    if (k == 2) memcpy(r + 37, redirect, REDIRECT);
+    else nest(r + 37, k == 0 ? 1 : 8);
+    return r;
+}
+
+static int check_chain(int k) {
+    static struct brothladder_chain chain0;
+    size_t n;
+    const uint8_t *r = quoting(k, &n);
+    for (int s = 1; s < SETS; s++) {
+        measure(&sets[s], CHAIN, -1, r, n);
+        if (s == 1) chain0 = chain;
+        else if (memcmp(&chain, &chain0, sizeof chain)) return printf("%s answers otherwise\n", sets[s].name), 1;
+    }
+    printf("%zu bytes: all answer alike; %u levels, the last of kind %u\n", n, chain0.levels, chain0.level_kind[(chain0.levels - 1) & 7]);
+    return chain0.answer != BROTHLADDER_CHAIN || chain0.levels != (k == 1 ? 8 : 1);
+}
+
+/* The stack that the chain writes to, down from the address to return to: it is called on a stack of its own that was filled before. */
+static size_t stack_of(const uint8_t *p, size_t n) {
+    static uint8_t stack[16384] __attribute__((aligned(16)));
+    size_t i = 0;
+    memset(stack, 0xa5, sizeof stack);
+    uint8_t *top = stack + sizeof stack;
+    struct brothladder_chain *to = &chain;
+    __asm__ volatile("mov %%rsp, %%rbx\n mov %[top], %%rsp\n call brothladder_chain\n mov %%rbx, %%rsp"
+                     : "+D"(to), "+S"(p), "+d"(n)
+                     : [top] "r"(top)
+                     : "rax", "rbx", "rcx", "r8", "r9", "r10", "r11", "cc", "memory", "xmm0", "xmm1", "xmm2", "xmm3", "xmm4", "xmm5", "xmm6", "xmm7",
+                       "xmm8", "xmm9", "xmm10", "xmm11", "xmm12", "xmm13", "xmm14", "xmm15");
+    while (i < sizeof stack && stack[i] == 0xa5) i++;
+    return sizeof stack - i;
+}
+
+/* eight levels, and in the last a message: without a quote and with a ninth, and lists that are clean and that are refused in each way */
+static int stack(void) {
+    static const struct { uint8_t rest[40 + 8]; size_t bytes; } last[] = {
+        {{128}, 8}, {{1}, 8}, {{137}, 40}, {{137, [40] = 4, 1}, 48}, {{137, [40] = 1, 9}, 48}, {{137, [40] = 3, 1}, 48}, {{135, [24] = 1, 0}, 48}};
+    static uint8_t p[8 + 48 * 8 + 48];
+    for (size_t i = 0; i < sizeof last / sizeof *last; i++) {
+        nest(p, 8);
+        memcpy(p + 384, last[i].rest, last[i].bytes);
+        size_t used = stack_of(p, 384 + last[i].bytes);
+        printf("%zu %u\n", used, chain.refusal);
+    }
+    return 0;
+}
+
 int main(int argc, char **argv) {
     static uint8_t capture[4096];
     FILE *f = fopen(argv[1], "rb");
     if (f == NULL || fread(capture, 1, sizeof capture, f) == 0) return 2;
+    if (argc > 2 && !strcmp(argv[2], "stack")) return stack();
+    for (int k = 0; k < QUOTING; k++) {
+        size_t n;
+        const uint8_t *q = quoting(k, &n);
+        if (argc > 2 && !strcmp(argv[2], "check")) {
+            if (check_chain(k)) return 1;
+        } else if (argc <= 2) {
+            for (int s = 0; s < SETS; s++) measure(&sets[s], CHAIN, s * CALLS + CHAIN, q, n);
+        }
+    }
     const uint8_t *r = capture;
     for (int k = 0; k < 3; k++) { /* its first two records are advertisements */
         if (k == 2) r = longest();
@@ -146,7 +227,7 @@ int main(int argc, char **argv) {
                 for (int c = 0; c < CALLS; c++) printf("%d;%s;%s\n", s * CALLS + c, sets[s].name, calls[c]);
         } else {
             for (int s = 0; s < SETS; s++)
-                for (int c = 0; c < CALLS; c++) measure(&sets[s], c, s * CALLS + c, r, n);
+                for (int c = 0; c < CHAIN; c++) measure(&sets[s], c, s * CALLS + c, r, n);
         }
         r += 37 + n;
     }

@@ -1,13 +1,18 @@
 """calls.py PAGE: the two tables of what bench/calls measured, printed and written into PAGE between their marks. Run in target/bench_calls.
 
 The stack of a call is read from the code: what a function pushes and reserves, the part below its stack pointer that it uses (the red zone of the
-x86-64 ABI), and the deepest of what it calls. No call is indirect and none comes back to itself, which is tested."""
+x86-64 ABI), and the deepest of what it calls. No call is indirect, and none comes back to itself but those of CYCLE, which is tested; what is read of
+these is held to what a run was seen to write to (stack.txt)."""
 import re
 import sys
 from functools import lru_cache
 
-CALLS = ["decode", "verify", "receive", "step", "read_prefix", "write", "write_clearing", "write_keeping", "version_3"]
-AIM_CODE, AIM_STACK = 16 * 1024, 512
+CALLS = ["decode", "verify", "receive", "step", "read_prefix", "write", "write_clearing", "write_keeping", "chain", "version_3"]
+AIM_CODE, AIM_STACK = 16 * 1024, {c: 1536 if c == "chain" else 512 for c in CALLS}
+# the functions that come back to themselves, and how often each is entered at most: a packet and eight levels have nine messages, and the ninth quote is
+# refused (docs/RULES.md Q11)
+CYCLE = {"quotes::message": 9, "quotes::quote": 9}
+CHAINS = {56: "one level", 392: "eight levels", 104: "a redirect"}
 
 # ---- instructions
 names = {int(l.split(";")[0]): tuple(l.strip().split(";")[1:]) for l in open("names.txt")}
@@ -16,7 +21,7 @@ for line in open("counts.txt"):
     who, length, insns, _, _ = map(int, line.split())
     if who in names:
         counts[names[who] + (length,)] = insns
-small, large, longest = sorted({k[2] for k in counts})
+small, large, longest = sorted({k[2] for k in counts if k[1] != "chain"})
 sets = [s for s in dict.fromkeys(k[0] for k in names.values()) if s != "nothing"]
 
 
@@ -25,8 +30,12 @@ def cost(who, call, length):
     return counts[who, call, length] - counts["nothing", call, length] + (0 if call == "walk" else 2)
 
 
-columns = [("decode", small), ("receive check", small), ("receive check", large), ("walk", small), ("walk", large), ("prefix", small), ("write", small), ("write", large), ("write", longest), ("write keeping", small), ("write keeping", large), ("write keeping", longest)]
-rows = ["| | " + " | ".join(f"{c}, {n:,}" if c not in ("decode", "prefix") else c for c, n in columns) + " |", "|---|" + "---|" * len(columns)]
+def title(call, length):
+    return call if call in ("decode", "prefix") else f"{call}, {CHAINS[length]}" if call == "chain" else f"{call}, {length:,}"
+
+
+columns = [("decode", small), ("receive check", small), ("receive check", large), ("walk", small), ("walk", large), ("prefix", small), ("write", small), ("write", large), ("write", longest), ("write keeping", small), ("write keeping", large), ("write keeping", longest), *(("chain", n) for n in CHAINS)]
+rows = ["| | " + " | ".join(title(c, n) for c, n in columns) + " |", "|---|" + "---|" * len(columns)]
 rows += [f"| {who} | " + " | ".join(f"{cost(who, c, n):,}" for c, n in columns) + " |" for who in sets]
 
 # ---- code
@@ -48,6 +57,9 @@ for f, lines in code.items():
         target = re.search(r"R_X86_64_PLT32\s+(?:\.text\.)?(\S+?)[-+]0x\w+$", text)
         if target:
             called.add(target.group(1))
+        elif re.match(r"call\s", text):  # without a relocation: within its own section, which is one function
+            assert int(text.split()[1], 16) == lines[0][0], f"{f} calls into its middle"
+            called.add(f)
     uses[f] = called
     assert called <= set(code), (f, called - set(code))
 
@@ -55,36 +67,54 @@ for f, lines in code.items():
 def frame(f):
     pushed = {t for _, t in code[f] if t.startswith("push")}
     reserved = [int(m.group(1), 16) for _, t in code[f] if (m := re.match(r"sub\s+\$0x(\w+),%rsp", t))]
+    reserved += [128 for _, t in code[f] if re.match(r"add\s+\$0xffffffffffffff80,%rsp", t)]  # which is a byte shorter
     red = [int(m.group(1), 16) for _, t in code[f] if (m := re.search(r"-0x(\w+)\(%rsp", t))]
     return 8 * len(pushed) + max(reserved, default=0), max(red, default=0)
 
 
 @lru_cache(None)
-def depth(f):
-    """with the address to return to"""
-    own, red = frame(f)
-    return 8 + own + max([red] + [depth(g) for g in uses[f]])
+def reached(f):
+    found, todo = {f}, [f]
+    while todo:
+        for g in uses[todo.pop()] - found:
+            found.add(g)
+            todo.append(g)
+    return frozenset(found)
+
+
+def cycle(f):
+    """The functions that call f and are called by it: those of a cycle through it, or f alone."""
+    return frozenset(g for g in reached(f) if f in reached(g))
 
 
 @lru_cache(None)
-def reached(f):
-    return frozenset({f}).union(*[reached(g) for g in uses[f]])
+def depth(f):
+    """With the address to return to; of a cycle, every function as often as it is entered, and then the deepest of what is called from it."""
+    own = cycle(f)
+    assert own <= set(CYCLE) or own == {f} and f not in uses[f], f"{sorted(own)} come back to themselves"
+    below = [frame(g)[1] for g in own] + [depth(h) for g in own for h in uses[g] - own]
+    return sum(CYCLE.get(g, 1) * (8 + frame(g)[0]) for g in own) + max(below)
 
 
 whole = sum(size for _, size in sections)  # what two objects share stands in both
 size_rows = ["| call | its own code | with all that it calls | stack |", "|---|---|---|---|"]
 exported = ["brothladder_" + c for c in CALLS if "brothladder_" + c in sizes]
 for f in exported:
-    size_rows.append(f"| `{f}` | {sizes[f]:,} | {sum(sizes[g] for g in reached(f)):,} | {depth(f)} |")
-size_rows.append(f"| the whole library | {whole:,} | and {tables:,} of constants and jump tables | {max(depth(f) for f in exported)} |")
+    size_rows.append(f"| `{f}` | {sizes[f]:,} | {sum(sizes[g] for g in reached(f)):,} | {depth(f):,} |")
+size_rows.append(f"| the whole library | {whole:,} | and {tables:,} of constants and jump tables | {max(depth(f) for f in exported):,} |")
 asks = [l for l in open("library.asks") if " U " in l]
 kinds = sorted(set(re.findall(r"R_X86_64_\w+", open("library.elf").read())))
+seen = [tuple(map(int, l.split())) for l in open("stack.txt")]
+chain = depth("brothladder_chain")
+assert all(used <= chain for used, _ in seen), f"the chain was seen to write to {max(seen)[0]} bytes of stack, and its code says {chain}"
 xmm = sum("%xmm" in t for lines in code.values() for _, t in lines)
 red = sorted(f for f in code if frame(f)[1])
+inner = sorted(f for f in code if f in CYCLE)
 plain = ", ".join(f"{t} {n}" for t, n in (l.split() for l in open("plain.sizes")))
 notes = (f"Symbols asked of the outside (`nm -u`): {len(asks) or 'none'}. Relocations: {', '.join(kinds)}. Writable data: none. Instructions on the "
          f"registers xmm0 to xmm15: {xmm}. Functions that use the red zone: {', '.join('`' + f + '`' for f in red) or 'none'}. "
-         f"Plain C, code and constants together: {plain}.")
+         f"Of `brothladder_chain` {' and '.join(f'`{f}` takes {8 + frame(f)[0]} bytes' for f in inner)} for each message, nine at most; a run was seen to "
+         f"write to {max(seen)[0]:,}. Plain C, code and constants together: {plain}.")
 
 page = open(sys.argv[1]).read()
 for mark, table in (("instructions", rows), ("size", size_rows + ["", notes])):
@@ -93,5 +123,5 @@ for mark, table in (("instructions", rows), ("size", size_rows + ["", notes])):
     page = head + start + "\n" + "\n".join(table) + "\n\n" + end + rest.split(end)[1]
     print("\n".join(table), end="\n\n")
 open(sys.argv[1], "w").write(page)
-if asks or whole + tables >= AIM_CODE or max(depth(f) for f in exported) >= AIM_STACK or set(kinds) - {"R_X86_64_PC32", "R_X86_64_PLT32"}:
+if asks or whole + tables >= AIM_CODE or any(depth("brothladder_" + c) >= AIM_STACK[c] for c in CALLS) or set(kinds) - {"R_X86_64_PC32", "R_X86_64_PLT32"}:
     sys.exit("the library misses an aim of docs/BENCHMARKS.md")

@@ -37,15 +37,16 @@
  * version 1 is the header without BROTHLADDER_VERSION. Under GCC and clang each object that includes this header refers to the call
  * brothladder_version_3, so an object that was compiled with the header of a later version does not link with this library, nor one
  * of this version with a later library. Objects of version 1 have no such reference: they would link, and go wrong. So compile all
- * of them anew once. Each later change of a struct, an argument or a meaning takes the next number.
+ * of them anew once. Each later change of a struct, an argument or a meaning takes the next number. A call that is added takes none:
+ * whoever makes it does not link with a library that lacks it.
  *
  * What you must ensure: each pointer can be read (`out`: written) for the length that goes with it, and an address for 16 bytes. A
  * pointer may be NULL only if its length is 0. Nobody else writes to a buffer during the call. `out` does not overlap another
  * buffer of the same call.
  *
- * What a call uses: less than 512 bytes of stack, the xmm registers, and the red zone below the stack pointer (x86-64 System V ABI).
- * If your kernel runs without SSE or a red zone, call these functions only where both are available (on Linux between
- * kernel_fpu_begin and kernel_fpu_end).
+ * What a call uses: less than 512 bytes of stack (brothladder_chain: less than 1,536), the xmm registers, and the red zone below the
+ * stack pointer (x86-64 System V ABI). If your kernel runs without SSE or a red zone, call these functions only where both are
+ * available (on Linux between kernel_fpu_begin and kernel_fpu_end).
  *
  * What a call changes: nothing, except the packet's own bytes in `out` when a brothladder_write.. returns BROTHLADDER_WRITTEN. A call
  * that refuses changes no buffer.
@@ -84,9 +85,11 @@ extern "C" {
 #define BROTHLADDER_RECEIVED 9u /* receive: the packet passed every test */
 #define BROTHLADDER_WRITTEN 10u /* write: the packet is in `out` */
 #define BROTHLADDER_PREFIX 11u  /* prefix: a prefix information option */
+#define BROTHLADDER_CHAIN 12u   /* chain: all the quotes of the packet */
 
 /* Values of `refusal`, which says why a call refused; 0 if it did not. `value` has the numbers that go with it, 0 past the last. The
- * last number of 5 to 8 is the place of the refused option in the packet: `offset` + `at` of a step, `offset` of the prefix.
+ * last number of 5 to 8 is the place of the refused option in the packet: `offset` + `at` of a step, `offset` of the prefix; of the
+ * chain it counts from the packet's first byte, as the place of a quote does.
  *                                                       value[0]       value[1]       value[2]        value[3]      value[4] */
 #define BROTHLADDER_REFUSAL_SHORT_PACKET 1u           /* 8              length                                                */
 #define BROTHLADDER_REFUSAL_LONG_PACKET 2u            /* 4294967295     length                                                */
@@ -102,6 +105,9 @@ extern "C" {
 #define BROTHLADDER_REFUSAL_NO_MARK 12u               /* place          (12 to 14: the dump program only)                     */
 #define BROTHLADDER_REFUSAL_LONG_RECORD 13u           /* length                                                               */
 #define BROTHLADDER_REFUSAL_CAPTURE_ENDS 14u          /* place                                                                */
+#define BROTHLADDER_REFUSAL_SHORT_QUOTE 15u           /* place          (15 to 17: the chain only) under 40 bytes             */
+#define BROTHLADDER_REFUSAL_QUOTE_VERSION 16u         /* place          not IP version 6                                      */
+#define BROTHLADDER_REFUSAL_DEEP_QUOTE 17u            /* place          a ninth quote                                         */
 #define BROTHLADDER_REFUSAL_FAR_OFFSET 22u            /* (none) offset + length is above 4294967295: no packet is that long   */
 
 /* value[0] of refusal 11: the first test of the receive check, in this order, that the packet failed. */
@@ -208,6 +214,17 @@ struct brothladder_prefix {
     size_t place; /* where the option begins in the packet: offset */
 };
 
+struct brothladder_chain {
+    uint32_t answer; /* CHAIN or REFUSED */
+    uint32_t refusal;
+    uint64_t value[5];
+    uint32_t kind;          /* the packet's type, BROTHLADDER_TYPE_..; 0 if type and code are not a known pair */
+    uint32_t levels;        /* how many quotes there are, one in another: 0 to 8. The entries behind the last one are 0 */
+    uint32_t quote[8];      /* where each begins in the packet. Its 40 bytes of IPv6 header are within the packet */
+    uint8_t next_header[8]; /* 58: an ICMPv6 message begins at quote[i] + 40 */
+    uint8_t level_kind[8];  /* that message's type, 0 if type and code are not a known pair. 0 where the next header is not 58 */
+};
+
 /* Decodes the head of a packet. KNOWN: type, code, checksum field and the fields of the type; no field holds reserved bits. UNKNOWN: the
  * type is none of BROTHLADDER_TYPE_.., or it has no such code; field[0] is bytes 4 to 7. `bytes5to8` has them in both cases, reserved
  * bits included. The call does not verify the checksum and does not test the length against the type: brothladder_receive does both.
@@ -269,6 +286,24 @@ BROTHLADDER_ANSWER BROTHLADDER_ADDRESSES(6, 7)
 struct brothladder_written brothladder_write_keeping(uint8_t type, uint8_t code, uint32_t bytes5to8, const uint8_t *payload,
                                                      size_t payload_length, const uint8_t source[16], const uint8_t destination[16],
                                                      uint8_t *out, size_t out_length);
+
+/* Reads which packet a message quotes, and what the quoted packet quotes in turn, up to eight deep: types 1 to 4 quote behind their head,
+ * types 133 to 137 in the first redirected-header option. The answer is the whole chain of quotes or a refusal, never a part of a chain:
+ *
+ *     struct brothladder_chain c = brothladder_chain(packet, length);
+ *     if (c.answer == BROTHLADDER_CHAIN && c.levels > 0) {
+ *         const uint8_t *quoted = packet + c.quote[0];        // 40 bytes of IPv6 header are there: quoted + 8 is who sent it
+ *         if (c.next_header[0] == 58 && c.level_kind[0] == BROTHLADDER_TYPE_ECHO_REQUEST)
+ *             return lost_echo(quoted + 40);                  // the 8 bytes of its head are there
+ *     }
+ *
+ * A quote is what somebody says that you sent: no checksum of it is verified, nor that of the packet (brothladder_receive does that).
+ * A message whose type and code are not a known pair has no quote. An option list on the way must walk to END, or nothing is read. A
+ * quote that was cut short is refused where the cut shows, and so is an option list that was padded.
+ * Refusals: 1, 2; of each message 1, 4 and 5, 6 or 7; of each quote 17, 15, 16, in this order. Inside a quote 1 and 4 count in their
+ * own message. */
+BROTHLADDER_ANSWER
+struct brothladder_chain brothladder_chain(const uint8_t *packet, size_t length);
 
 /* Returns BROTHLADDER_VERSION. You need not call it: it is here to be referred to. `retain` keeps the reference where the linker drops
  * what nobody uses. */

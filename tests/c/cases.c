@@ -58,9 +58,10 @@ static void layout(void) {
     same("stepped has no hole", sizeof(struct brothladder_stepped), 48 + 4 + 4 + 4 * sizeof(size_t));
     same("received has no hole", sizeof(struct brothladder_received), 48 + 2 * sizeof(size_t));
     same("prefix has no hole", sizeof(struct brothladder_prefix), 48 + 4 + 2 + 2 + 4 + 4 + 16 + sizeof(size_t));
+    same("chain has no hole", sizeof(struct brothladder_chain), 48 + 4 + 4 + 8 * 4 + 8 + 8);
     const uint32_t answers[] = {BROTHLADDER_REFUSED, BROTHLADDER_KNOWN, BROTHLADDER_UNKNOWN, BROTHLADDER_VALID, BROTHLADDER_INVALID,
                                 BROTHLADDER_OPTION, BROTHLADDER_END, BROTHLADDER_STOPPED, BROTHLADDER_RECEIVED, BROTHLADDER_WRITTEN,
-                                BROTHLADDER_PREFIX};
+                                BROTHLADDER_PREFIX, BROTHLADDER_CHAIN};
     for (size_t i = 0; i < sizeof answers / sizeof *answers; i++) {
         check(answers[i] != 0, "no answer is 0", "");
         for (size_t j = 0; j < i; j++) check(answers[i] != answers[j], "two answers differ", "");
@@ -282,6 +283,8 @@ static void empty(void) {
         refuses("verify of nothing", &v, sizeof v, 1, 8, 0, 0, 0, 0);
         struct brothladder_received r = brothladder_receive(nothing, 0, 255, router, router);
         refuses("receive of nothing", &r, sizeof r, 1, 8, 0, 0, 0, 0);
+        struct brothladder_chain c = brothladder_chain(nothing, 0);
+        refuses("the quotes of nothing", &c, sizeof c, 1, 8, 0, 0, 0, 0);
         same("step in nothing", brothladder_step(nothing, 0, 0, 0).answer, BROTHLADDER_END);
         same("step beyond nothing", brothladder_step(nothing, 0, 0, 1).answer, BROTHLADDER_STOPPED);
         same("step far beyond nothing", brothladder_step(nothing, 0, 0, SIZE_MAX).answer, BROTHLADDER_STOPPED);
@@ -334,6 +337,8 @@ static void longest(void) {
     refuses("verify of 4 GiB", &v, sizeof v, 2, 4294967295u, huge, 0, 0, 0);
     r = brothladder_receive(p, huge, 255, router, router);
     refuses("receive of 4 GiB", &r, sizeof r, 2, 4294967295u, huge, 0, 0, 0);
+    struct brothladder_chain c = brothladder_chain(p, huge);
+    refuses("the quotes of 4 GiB", &c, sizeof c, 2, 4294967295u, huge, 0, 0, 0);
     h = brothladder_decode(p, huge - 1);
     same("decode of one less", h.answer, BROTHLADDER_UNKNOWN);
     munmap(p, huge);

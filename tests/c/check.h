@@ -62,6 +62,14 @@ extern const uint8_t none[16], router[16], all_routers[16];
 /* Counts an answer that chance brought about. */
 void note(uint32_t answer, uint32_t refusal, uint64_t value);
 
+/* Whether each of these numbers came often enough that a comparison says something. */
+void often(const char *what, const unsigned long *counts, const char *numbers);
+
+/* How many packets chance brings about. */
+#ifndef PACKETS
+#define PACKETS 100000
+#endif
+
 /* Writes what a packet says into some room, by the library and by plain C. */
 enum { LONGEST = 400 };
 void write_again(const uint8_t *packet, size_t n, const uint8_t *source, const uint8_t *destination);
@@ -75,4 +83,5 @@ void cases(void);   /* the worked cases P1 to P13, every refusal, edges */
 void writes(void);  /* the packet writer */
 void joined(void);  /* option lists cut at every place */
 void damaged(void); /* 100,000 packets, random and damaged, beside plain.c */
+void quotes(void);  /* packets quoted in packets: the worked cases of area Q, and 100,000 nests beside plain.c */
 #endif

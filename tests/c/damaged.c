@@ -5,10 +5,6 @@
 #include <stdio.h>
 #include <string.h>
 
-#ifndef PACKETS
-#define PACKETS 100000
-#endif
-
 static const uint8_t addresses[][16] = {
     {0},                                                        /* unspecified */
     {0xfe, 0x80, [15] = 1},                                     /* link-local */
@@ -129,7 +125,7 @@ static void reads(const uint8_t *packet, size_t n, uint8_t hop_limit, const uint
     if (r.answer == BROTHLADDER_RECEIVED) walks(packet + r.options_at, r.options_length, r.options_at);
 }
 
-static void often(const char *what, const unsigned long *counts, const char *numbers) {
+void often(const char *what, const unsigned long *counts, const char *numbers) {
     for (unsigned n; sscanf(numbers, "%u", &n) == 1; numbers += strcspn(numbers, " ") + 1) {
         char detail[60];
         snprintf(detail, sizeof detail, "%u came %lu times", n, counts[n]);

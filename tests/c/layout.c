@@ -48,6 +48,14 @@ AT(prefix, prefix, 64, 16);
 AT(prefix, place, 80, 8);
 ENDS(prefix, 88);
 
+BEGINS(chain);
+AT(chain, kind, 48, 4);
+AT(chain, levels, 52, 4);
+AT(chain, quote, 56, 32);
+AT(chain, next_header, 88, 8);
+AT(chain, level_kind, 96, 8);
+ENDS(chain, 104);
+
 /* of this head the field at `index` is `value`, and the others are 0 */
 static void alone(const char *bytes, size_t index, uint32_t value) {
     uint8_t b[8];

@@ -8,6 +8,7 @@ int main(void) {
     writes();
     joined();
     damaged();
+    quotes();
     printf("%lu passed, %lu failed\n", passed, failed);
     return failed != 0 || passed == 0;
 }

@@ -286,3 +286,68 @@ struct brothladder_prefix plain_prefix(const uint8_t *option, size_t length, siz
     p.place = offset;
     return p;
 }
+
+/* Q10: beside a refusal the chain is all 0. */
+static struct brothladder_chain no_chain(uint32_t refusal, const uint64_t value[5]) {
+    struct brothladder_chain c;
+    memset(&c, 0, sizeof c);
+    c.answer = BROTHLADDER_REFUSED;
+    c.refusal = refusal;
+    memcpy(c.value, value, sizeof c.value);
+    return c;
+}
+
+/* Q4: the quote in the first option of type 4 of a list that walks clean; `*end` is 0 where there is none. The refusal, or 0. */
+static uint32_t quote_in_list(const uint8_t *packet, size_t *at, size_t *end, uint64_t value[5]) {
+    size_t list = *at, stop = *end, bytes;
+    uint32_t refusal;
+    for (*end = 0; list < stop; list += bytes) {
+        if ((refusal = bad_option(packet + list, stop - list, list, value)) != 0) return refusal;
+        bytes = 8 * (size_t)packet[list + 1];
+        if (packet[list] == 4 && *end == 0) *at = list + 8, *end = list + bytes;
+    }
+    return 0;
+}
+
+/* Q1 to Q10: `at` to `end` is a message, and then the quote in it. */
+struct brothladder_chain plain_chain(const uint8_t *packet, size_t length) {
+    struct brothladder_chain c;
+    uint64_t value[5] = {0};
+    uint32_t refusal = bad_length(length, value);
+    size_t at = 0, end = length;
+    memset(&c, 0, sizeof c);
+    c.answer = BROTHLADDER_CHAIN;
+    for (;;) {
+        /* Q2, Q5 */
+        if (refusal != 0 || (refusal = bad_length(end - at, value)) != 0) return no_chain(refusal, value);
+        int type = packet[at];
+        if (packet[at + 1] >= codes(type)) return c;
+        if (c.levels == 0) c.kind = (uint32_t)type;
+        else c.level_kind[c.levels - 1] = (uint8_t)type;
+        /* Q3, Q4 */
+        if (1 <= type && type <= 4) {
+            at += 8;
+        } else if (neighbor_discovery(type)) {
+            value[0] = fixed_part(type);
+            value[1] = end - at - 8;
+            if (value[1] < value[0]) return no_chain(4, value);
+            value[0] = value[1] = 0;
+            at += 8 + fixed_part(type);
+            if ((refusal = quote_in_list(packet, &at, &end, value)) != 0) return no_chain(refusal, value);
+            if (end == 0) return c;
+        } else {
+            return c;
+        }
+        /* Q6, Q7 */
+        value[0] = at;
+        if (c.levels == 8) return no_chain(17, value);
+        if (end - at < 40) return no_chain(15, value);
+        if (packet[at] >> 4 != 6) return no_chain(16, value);
+        value[0] = 0;
+        c.quote[c.levels] = (uint32_t)at;
+        c.next_header[c.levels] = packet[at + 6];
+        if (packet[at + 6] != 58) return c.levels++, c;
+        c.levels++;
+        at += 40;
+    }
+}

@@ -161,7 +161,10 @@ LOGS = [
     ("parameters exchanged, and a function that calls it is refused", ("ndp_walker", EXCHANGED), own("step"), None),
     ("parameters exchanged, and a function that does not call it is refused", ("ndp_walker", EXCHANGED), own("rest"), "step_at is not refused by itself"),
     ("a function that calls itself", ("dump_lines", DIGITS), own("+put_decimal"), None),
-    ("one of several functions that call one another", ("dump_lines", DIGITS), own("+put_decimal+put_few"), "put_decimal is not refused by itself"),
+    ("one of several functions that call one another", ("dump_lines", DIGITS), own("+put_decimal+put_few", "put-decimal-returns"), None),
+    ("another of several functions that call one another", ("dump_lines", DIGITS), own("+put_decimal+put_few", "put-few-returns"), "put_decimal is not refused by itself"),
+    ("a fact of no one among functions that call one another", ("dump_lines", DIGITS), own("+put_decimal+put_few"), "put_decimal is not refused by itself"),
+    ("a bound of one of several functions that call one another", ("dump_lines", DIGITS), own("+put_decimal+put_few", "put-decimal-slice-write-out"), "shows nothing"),
 ]
 
 

@@ -9,7 +9,8 @@ import sys
 import tempfile
 
 root = os.path.dirname(os.path.dirname(os.path.dirname(os.path.abspath(__file__))))
-HEADER, PREFIX, DECODE, STEP, ANSWER, VERSION = "include/brothladder.h", *(f"crates/c_{c}/src/lib.rt" for c in ("prefix", "decode", "step", "answer", "version"))
+HEADER, PREFIX, DECODE, STEP, QUOTES, ANSWER, VERSION = "include/brothladder.h", *(
+    f"crates/c_{c}/src/lib.rt" for c in ("prefix", "decode", "step", "quotes", "answer", "version"))
 
 
 def copied(to):
@@ -60,6 +61,8 @@ def fields(a, b):
 lifetimes = {HEADER: exchanged("uint32_t valid_lifetime;", "uint32_t preferred_lifetime;"), PREFIX: exchanged("pub valid_lifetime: u32", "pub preferred_lifetime: u32")}
 places = {HEADER: exchanged("    size_t at;", "    size_t next;"), STEP: exchanged("pub at: usize", "pub next: usize")}
 place = {HEADER: exchanged("    size_t at;", "    size_t place; /* where the option begins in the packet: offset + at */"), STEP: exchanged("pub at: usize", "pub place: usize")}
+levels = {HEADER: exchanged("    uint8_t next_header[8];", "    uint8_t level_kind[8];"), QUOTES: exchanged("pub next_header: [u8; 8]", "pub level_kind: [u8; 8]")}
+nine = {HEADER: instead("uint32_t quote[8];", "uint32_t quote[9];"), QUOTES: instead("pub quote: [u32; 8]", "pub quote: [u32; 9]")}
 wide = {HEADER: instead("uint16_t on_link;", "uint32_t on_link;"), PREFIX: instead("pub on_link: u16", "pub on_link: u32")}
 MISTAKES = [
     ("nothing", {}, []),
@@ -67,6 +70,8 @@ MISTAKES = [
     ("two places exchanged in source and header", places, ["layout"]),
     ("index and place exchanged in source and header", place, ["layout"]),
     ("a member made wider in source and header", wide, ["layout"]),
+    ("next header and kind of a level exchanged in source and header", levels, ["layout"]),
+    ("a ninth quote in source and header", nine, ["layout"]),
     ("two members exchanged in the header", {HEADER: lifetimes[HEADER]}, ["header", "layout"]),
     ("two members exchanged in the source", {PREFIX: lifetimes[PREFIX]}, ["header"]),
     ("the indexes of M and O exchanged", {HEADER: fields("MANAGED", "OTHER")}, ["header"]),
@@ -74,8 +79,9 @@ MISTAKES = [
     ("the indexes of identifier and sequence exchanged", {HEADER: fields("IDENTIFIER", "SEQUENCE")}, ["header"]),
     ("M and O exchanged in the source", {DECODE: exchanged("h.managed_address_config", "h.other_config")}, ["header"]),
     ("an index left out", {HEADER: instead("#define BROTHLADDER_FIELD_OVERRIDE 2", "")}, ["header", "layout"]),
-    ("an answer with another number", {ANSWER: instead("END: u32 = 7", "END: u32 = 12")}, ["header"]),
+    ("an answer with another number", {ANSWER: instead("END: u32 = 7", "END: u32 = 13")}, ["header"]),
     ("a refusal with another number", {HEADER: instead("ZERO_LENGTH 6u", "ZERO_LENGTH 5u")}, ["header"]),
+    ("two refusals of a quote exchanged", {HEADER: exchanged("SHORT_QUOTE", "QUOTE_VERSION")}, ["header"]),
     ("the refusal of a far offset with another number", {HEADER: instead("FAR_OFFSET 22u", "FAR_OFFSET 15u")}, ["header"]),
     ("offset and place exchanged in a prototype", {HEADER: instead("size_t offset, size_t at);", "size_t at, size_t offset);")}, ["header"]),
     ("an argument left out of a prototype", {HEADER: instead("*option, size_t length, size_t offset);", "*option, size_t length);")}, ["header"]),

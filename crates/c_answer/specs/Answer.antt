@@ -44,9 +44,13 @@ WRITTEN = 10
 abbrev pub PREFIX : ℕ
 PREFIX = 11
 
+-- the packets that a message quotes
+abbrev pub CHAIN : ℕ
+CHAIN = 12
+
 -- all of them
 abbrev pub answers : List ℕ
-answers = REFUSED ∷ KNOWN ∷ UNKNOWN ∷ VALID ∷ INVALID ∷ OPTION ∷ END ∷ STOPPED ∷ RECEIVED ∷ WRITTEN ∷ PREFIX ∷ []
+answers = REFUSED ∷ KNOWN ∷ UNKNOWN ∷ VALID ∷ INVALID ∷ OPTION ∷ END ∷ STOPPED ∷ RECEIVED ∷ WRITTEN ∷ PREFIX ∷ CHAIN ∷ []
 
 -- each number of a list above the one before it, the first above n: then no two are alike, and none is n
 abbrev pub rising : ℕ → List ℕ → Bool

@@ -1,3 +1,4 @@
 pub mod Told
 pub mod Whole
+pub mod Firstly
 pub mod Unique

@@ -24,7 +24,7 @@ use Rattle.ndp_options.proofs.Reasons.{five-to-seven}
 
 module _ (o : ℕ) (s : List ℕ) where
   -- the refusal of a walk has a number
-  walk-refused : {place : ℕ} {why : Paper} → walkFrom o s .ending ≡ RefusedAt place why → 0 < why .number
+  pub walk-refused : {place : ℕ} {why : Paper} → walkFrom o s .ending ≡ RefusedAt place why → 0 < why .number
   walk-refused {place} {why} e = go (walk s .ending) refl (sym (ending-from rule o s) ∙ e)
     where
       go : (w : Ending) → walk s .ending ≡ w → shiftEnding o w ≡ RefusedAt place why → 0 < why .number

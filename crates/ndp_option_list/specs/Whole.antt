@@ -29,6 +29,14 @@ occurs type (i ∷ is) = cond (eqb (i .type) type) true (occurs type is)
 abbrev pub occursOf : ℕ → ℕ → List ℕ → Paper
 occursOf type offset s = wholeOf offset s (λ is. oneIf (occurs type is) ∷ [])
 
--- both
+-- the first option of the type: its place and its length; no numbers where there is none, which is where `occurs` says no
+unfoldable pub first : ℕ → List Item → List ℕ
+first type [] = []
+first type (i ∷ is) = cond (eqb (i .type) type) (i .at ∷ i .len ∷ []) (first type is)
+
+abbrev pub firstOf : ℕ → ℕ → List ℕ → Paper
+firstOf type offset s = wholeOf offset s (λ is. first type is)
+
+-- how many, and the first
 abbrev pub tallyOf : ℕ → ℕ → List ℕ → Paper
-tallyOf type offset s = wholeOf offset s (λ is. length is ∷ oneIf (occurs type is) ∷ [])
+tallyOf type offset s = wholeOf offset s (λ is. length is ∷ first type is)

@@ -1,9 +1,10 @@
-// Calls over a whole list of options: how many there are, and whether one has a type. A list that is refused gets the refusal.
+// Calls over a whole list of options: how many there are, whether one has a type, and which is the first that has it. A list that is refused gets the
+// refusal.
 ghost use mathlib.Core.Path.{_≡_};
-ghost use mathlib.Core.Bool.{true, cond};
+ghost use mathlib.Core.Bool.{cond};
 ghost use lib.Dec.{eqb};
-ghost use Rattle.ndp_option_list.specs.Whole.{countOf, occursOf, tallyOf};
-ghost use Rattle.ndp_option_list.specs.Told.{countTold, occursTold, tallyTold};
+ghost use Rattle.ndp_option_list.specs.Whole.{countOf, occursOf, firstOf, tallyOf};
+ghost use Rattle.ndp_option_list.specs.Told.{countTold, occursTold, firstTold, tallyTold};
 use ndp_options::Cursor;
 use ndp_options::Step;
 use refusal::NdpOptionType;
@@ -22,16 +23,35 @@ pub enum Occurs {
     Refused(Refusal),
 }
 
-// Of a whole walk: how many options, and whether one of the type asked for.
-enum Tally {
-    All(usize, bool),
+// The first option of a type: its place in the packet and its length in bytes; none; or why the walk was refused, with its place.
+pub enum First {
+    At(usize, usize),
+    Nowhere,
     Refused(Refusal),
 }
 
-fn found_by(found: bool, id: NdpOptionType, wanted: NdpOptionType) -> bool
-    ensures { λ r. ⌜ r ≡ cond found true (eqb (id .0) (wanted .0)) ⌝ }
+// The place and the length of the first option of a type. No option has 0 bytes: a length of 0 says that there is none.
+struct Spot {
+    place: usize,
+    len: usize,
+}
+
+// Of a whole walk: how many options, and the first of the type asked for.
+enum Tally {
+    All(usize, Spot),
+    Refused(Refusal),
+}
+
+// The spot that was found earlier, or that of the option if it is the first of the type.
+fn first_by(earlier: Spot, id: NdpOptionType, option: Spot, wanted: NdpOptionType) -> Spot
+    ensures { λ r. ⌜ r ≡ cond (eqb (earlier .len) 0) (cond (eqb (id .0) (wanted .0)) option earlier) earlier ⌝ }
 {
-    if found { true } else { id.0 == wanted.0 }
+    if earlier.len == 0 {
+        if id.0 == wanted.0 {
+            return option;
+        }
+    }
+    earlier
 }
 
 // The whole walk, once.
@@ -40,12 +60,16 @@ fn walk_all(options: &[u8], offset: usize, wanted: NdpOptionType) -> Tally
 {
     let mut c = Cursor::new();
     let mut n: usize = 0;
-    let mut found = false;
+    let mut found = Spot { place: 0, len: 0 };
     loop {
         match c.step(options, offset) {
             Step::Handed(option, next) => {
                 n += 1;
-                found = found_by(found, option.option_type, wanted);
+                let here = Spot {
+                    place: option.place,
+                    len: option.len,
+                };
+                found = first_by(found, option.option_type, here, wanted);
                 c = next;
             }
             Step::End => return Tally::All(n, found),
@@ -70,8 +94,25 @@ pub fn count(options: &[u8], offset: usize) -> Counted
 pub fn has_type(options: &[u8], offset: usize, wanted: NdpOptionType) -> Occurs
     ensures { λ r. ⌜ occursTold r ≡ occursOf (wanted .0) offset (now (options .entry)) ⌝ }
 {
+    match first_of_type(options, offset, wanted) {
+        First::At(_, _) => Occurs::Yes,
+        First::Nowhere => Occurs::No,
+        First::Refused(why) => Occurs::Refused(why),
+    }
+}
+
+// The first option of the type, or the refusal: of a refused list none counts, not even one that stands before the refusal.
+pub fn first_of_type(options: &[u8], offset: usize, wanted: NdpOptionType) -> First
+    ensures { λ r. ⌜ firstTold r ≡ firstOf (wanted .0) offset (now (options .entry)) ⌝ }
+{
     match walk_all(options, offset, wanted) {
-        Tally::All(_, found) => { if found { Occurs::Yes } else { Occurs::No } }
-        Tally::Refused(why) => Occurs::Refused(why),
+        Tally::All(_, found) => {
+            if found.len == 0 {
+                First::Nowhere
+            } else {
+                First::At(found.place, found.len)
+            }
+        }
+        Tally::Refused(why) => First::Refused(why),
     }
 }

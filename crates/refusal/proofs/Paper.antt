@@ -10,7 +10,7 @@ use lib.ListN.{getD, length}
 use Rattle.paper.specs.Paper.{Paper}
 use Rattle.paper.proofs.Lossless.{lossless}
 use Rattle.refusal.specs.declared.Refusal.{Refusal}
-use Rattle.refusal.specs.declared.Refusal.the-variants.{ShortPacket, LongPacket, LongPayload, ShortFixedPart, UnexpectedSize, ZeroLength, UnexpectedEndOfSlice, UnexpectedHeader, ShortOutput, KnownPair, NotReceived, NoMark, LongRecord, CaptureEnds, FarOffset}
+use Rattle.refusal.specs.declared.Refusal.the-variants.{ShortPacket, LongPacket, LongPayload, ShortFixedPart, UnexpectedSize, ZeroLength, UnexpectedEndOfSlice, UnexpectedHeader, ShortOutput, KnownPair, NotReceived, NoMark, LongRecord, CaptureEnds, ShortQuote, QuoteVersion, DeepQuote, FarOffset}
 use Rattle.refusal.specs.Table.{values}
 use Rattle.refusal.specs.Paper.{refusal, slots}
 
@@ -30,7 +30,10 @@ refusalOf p =
     (cond (eqb (p .number) 12) (NoMark (getD (p .values) 0 0))
     (cond (eqb (p .number) 13) (LongRecord (getD (p .values) 0 0))
     (cond (eqb (p .number) 14) (CaptureEnds (getD (p .values) 0 0))
-    FarOffset))))))))))))))
+    (cond (eqb (p .number) 15) (ShortQuote (getD (p .values) 0 0))
+    (cond (eqb (p .number) 16) (QuoteVersion (getD (p .values) 0 0))
+    (cond (eqb (p .number) 17) (DeepQuote (getD (p .values) 0 0))
+    FarOffset)))))))))))))))))
 
 pub refusal-back : (r : Refusal) → refusalOf (refusal r) ≡ r
 refusal-back (ShortPacket a b) = refl
@@ -47,6 +50,9 @@ refusal-back (NotReceived a) = refl
 refusal-back (NoMark a) = refl
 refusal-back (LongRecord a) = refl
 refusal-back (CaptureEnds a) = refl
+refusal-back (ShortQuote a) = refl
+refusal-back (QuoteVersion a) = refl
+refusal-back (DeepQuote a) = refl
 refusal-back FarOffset = refl
 
 -- no refusal has the number 0, which is that of an answer that refuses nothing
@@ -65,6 +71,9 @@ refusal-numbered (NotReceived a) = refl
 refusal-numbered (NoMark a) = refl
 refusal-numbered (LongRecord a) = refl
 refusal-numbered (CaptureEnds a) = refl
+refusal-numbered (ShortQuote a) = refl
+refusal-numbered (QuoteVersion a) = refl
+refusal-numbered (DeepQuote a) = refl
 refusal-numbered FarOffset = refl
 
 pub few : (r : Refusal) → length (values r) ≤ 5
@@ -82,6 +91,9 @@ few (NotReceived a) = lit≤ tt
 few (NoMark a) = lit≤ tt
 few (LongRecord a) = lit≤ tt
 few (CaptureEnds a) = lit≤ tt
+few (ShortQuote a) = lit≤ tt
+few (QuoteVersion a) = lit≤ tt
+few (DeepQuote a) = lit≤ tt
 few FarOffset = lit≤ tt
 
 pub slots-at : (l : List ℕ) (i : ℕ) → i < 5 → getD (slots l) i 0 ≡ getD l i 0

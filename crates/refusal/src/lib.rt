@@ -1,4 +1,4 @@
-// The refusals (docs/RULES.md N1 to N14 and N22), which every answer of the library shares.
+// The refusals (docs/RULES.md N1 to N17 and N22), which every answer of the library shares.
 ghost use mathlib.Core.Path.{_≡_};
 ghost use lib.ListN.{getD, length};
 ghost use Rattle.refusal.specs.Table.{number, values};
@@ -10,7 +10,7 @@ pub struct NdpOptionType(pub u8);
 // The length field of an option, in units of eight octets: never a number of bytes.
 pub struct LengthUnits(pub u8);
 
-// The variants stand in the order of the table: 1 to 14, then 22. A place is that in the whole packet.
+// The variants stand in the order of the table: 1 to 17, then 22. A place is that in the whole packet.
 pub enum Refusal {
     ShortPacket {
         least: usize,
@@ -69,6 +69,15 @@ pub enum Refusal {
     },
     CaptureEnds {
         place: u64,
+    },
+    ShortQuote {
+        place: usize,
+    },
+    QuoteVersion {
+        place: usize,
+    },
+    DeepQuote {
+        place: usize,
     },
     FarOffset,
 }
@@ -176,6 +185,21 @@ impl Refusal {
                 number: 14,
                 count: 1,
                 values: [place, 0, 0, 0, 0],
+            },
+            Refusal::ShortQuote { place } => Numbers {
+                number: 15,
+                count: 1,
+                values: [place as u64, 0, 0, 0, 0],
+            },
+            Refusal::QuoteVersion { place } => Numbers {
+                number: 16,
+                count: 1,
+                values: [place as u64, 0, 0, 0, 0],
+            },
+            Refusal::DeepQuote { place } => Numbers {
+                number: 17,
+                count: 1,
+                values: [place as u64, 0, 0, 0, 0],
             },
             Refusal::FarOffset => Numbers {
                 number: 22,

@@ -2,14 +2,15 @@
 -- what was found and what the walk from the cursor comes to. The measure is what is left of the bytes.
 -- Assumes nothing.
 use Prim.Native.Nat.{ℕ, _+_, _-_, _≤_}
-use mathlib.Core.Path.{_≡_, _∙_, sym, ap}
+use mathlib.Core.Path.{_≡_, refl, _∙_, sym, ap}
 use mathlib.Core.List.{List, [], _∷_}
 use mathlib.Core.Bool.{Bool, true, false, cond}
 use native.Mathlib.Omega.{arith}
 use native.Mathlib.Nat.{add-zero, zero-add}
 use lib.ListN.{length, drop}
 use lib.Dec.{eqb}
-use Rattle.paper.specs.Paper.{Paper, gives, oneIf}
+use borrow.Author.Tests.{ne-eqb}
+use Rattle.paper.specs.Paper.{Paper, gives}
 use Rattle.packet_length.specs.Length.{limit}
 use Rattle.packet_place.specs.Place.{isFar, far}
 use Rattle.packet_place.proofs.Laws.{near, beyond}
@@ -20,45 +21,61 @@ use Rattle.ndp_options.specs.Rule.{rule}
 use Rattle.ndp_options.specs.Walk.{walkFrom}
 use Rattle.ndp_options.specs.Told.{itemTold}
 use Rattle.ndp_options.proofs.Steps.{handed-on, ended-at, refused-at, not-stopped}
-use Rattle.ndp_option_list.specs.Whole.{wholeOf, occurs, tallyOf}
+use Rattle.ndp_option_list.specs.Whole.{wholeOf, first, tallyOf}
+use Rattle.ndp_option_list.specs.Told.{spotTold}
+use Rattle.ndp_option_list.specs.declared.Spot.{Spot}
 use borrow.Author.Needs.{needs}
 use Rattle.ndp_option_list.proofs.walk_all.Statement.{statement}
 use Rattle.ndp_option_list.proofs.walk_all.Tie as tie
 
 -- what was found, and what a walk comes to
-abbrev more : ℕ → ℕ → Bool → Walk → Paper
-more wanted n found w = endBy (w .ending) (gives ((n + length (w .items)) ∷ oneIf (cond found true (occurs wanted (w .items))) ∷ []))
+abbrev more : ℕ → ℕ → Spot → Walk → Paper
+more wanted n found w = endBy (w .ending) (gives ((n + length (w .items)) ∷ cond (eqb (found .len) 0) (first wanted (w .items)) (found .place ∷ found .len ∷ [])))
 
--- one option more
-turn : (wanted n : ℕ) (found : Bool) (i : Item) (w : Walk) → more wanted n found (then (i ∷ []) w) ≡ more wanted (n + 1) (cond found true (eqb (i .type) wanted)) w
-unfolding occurs
-turn wanted n true i w = ap (λ (k : ℕ). endBy (w .ending) (gives (k ∷ 1 ∷ []))) (omega arith)
-turn wanted n false i w = ap (λ (k : ℕ). endBy (w .ending) (gives (k ∷ oneIf (occurs wanted (i ∷ w .items)) ∷ []))) (omega arith)
+abbrev spot : ℕ → ℕ → Spot
+spot place len = record { place = place; len = len }
+
+-- one option more, which has some bytes
+turn : (wanted n : ℕ) (found : Spot) (i : Item) (w : Walk) → 8 ≤ i .len → more wanted n found (then (i ∷ []) w) ≡ more wanted (n + 1) (cond (eqb (found .len) 0) (cond (eqb (i .type) wanted) (spot (i .at) (i .len)) found) found) w
+unfolding first
+turn wanted n found i w h = by (eqb (found .len) 0) refl (eqb (i .type) wanted) (omega arith)
+  where
+    some : eqb (i .len) 0 ≡ false
+    some = ne-eqb (i .len) 0 (omega arith)
+
+    by : (a : Bool) → eqb (found .len) 0 ≡ a → (b : Bool) → n + length (i ∷ w .items) ≡ n + 1 + length (w .items) →
+        endBy (w .ending) (gives ((n + length (i ∷ w .items)) ∷ cond a (cond b (i .at ∷ i .len ∷ []) (first wanted (w .items))) (found .place ∷ found .len ∷ [])))
+        ≡ more wanted (n + 1) (cond a (cond b (spot (i .at) (i .len)) found) found) w
+    by true e true q = rw (q, some)
+    by true e false q = rw (q, e)
+    by false e b q = rw (q, e)
 
 -- no more
-over : (wanted n : ℕ) (found : Bool) → more wanted n found clean ≡ gives (n ∷ oneIf found ∷ [])
-unfolding occurs
-over wanted n true = ap (λ (k : ℕ). gives (k ∷ 1 ∷ [])) (add-zero n)
-over wanted n false = ap (λ (k : ℕ). gives (k ∷ 0 ∷ [])) (add-zero n)
+over : (wanted n : ℕ) (found : Spot) → more wanted n found clean ≡ gives (n ∷ spotTold found)
+unfolding first
+over wanted n found = ap (λ (k : ℕ). gives (k ∷ spotTold found)) (add-zero n)
 
 -- the same of bytes at an offset: 22 if they are too far on
-abbrev from : ℕ → List ℕ → ℕ → ℕ → ℕ → Bool → Paper
+abbrev from : ℕ → List ℕ → ℕ → ℕ → ℕ → Spot → Paper
 from o s at wanted n found = cond (isFar o (length s)) far (more wanted n found (walkFrom (o + at) (drop at s)))
 
 -- at the first byte nothing was found
-start : (o : ℕ) (s : List ℕ) (wanted : ℕ) → tallyOf wanted o s ≡ from o s 0 wanted 0 false
+start : (o : ℕ) (s : List ℕ) (wanted : ℕ) → tallyOf wanted o s ≡ from o s 0 wanted 0 (spot 0 0)
 unfolding wholeOf
 start o s wanted = rw (add-zero o, zero-add (length (walkFrom o s .items)))
 
-ends : (o : ℕ) (s : List ℕ) (at wanted n : ℕ) (found : Bool) → o + length s ≤ limit → walkFrom (o + at) (drop at s) ≡ clean → from o s at wanted n found ≡ gives (n ∷ oneIf found ∷ [])
+ends : (o : ℕ) (s : List ℕ) (at wanted n : ℕ) (found : Spot) → o + length s ≤ limit → walkFrom (o + at) (drop at s) ≡ clean → from o s at wanted n found ≡ gives (n ∷ spotTold found)
 ends o s at wanted n found h w = rw (near o (length s) h, w) (over wanted n found)
 
-stops : (o : ℕ) (s : List ℕ) (at wanted n : ℕ) (found : Bool) {why : Paper} → Refusing rule o s at why → from o s at wanted n found ≡ why
+stops : (o : ℕ) (s : List ℕ) (at wanted n : ℕ) (found : Spot) {why : Paper} → Refusing rule o s at why → from o s at wanted n found ≡ why
 stops o s at wanted n found (far-on f) = rw (beyond o (length s) f)
 stops o s at wanted n found (there h reason w) = rw (near o (length s) h, w)
 
-goes-on : (o : ℕ) (s : List ℕ) (at wanted n : ℕ) (found : Bool) {i : Item} {place next : ℕ} → Onward rule o s at i place next → from o s at wanted n found ≡ from o s next wanted (n + 1) (cond found true (eqb (i .type) wanted))
-goes-on o s at wanted n found {i} {place} {next} h = rw (near o (length s) (h .near), h .walk) (turn wanted n found (shiftItem o i) (walkFrom (o + next) (drop next s)))
+goes-on : (o : ℕ) (s : List ℕ) (at wanted n : ℕ) (found : Spot) {i : Item} {place next : ℕ} → Onward rule o s at i place next →
+    from o s at wanted n found ≡ from o s next wanted (n + 1) (cond (eqb (found .len) 0) (cond (eqb (i .type) wanted) (spot place (i .len)) found) found)
+goes-on o s at wanted n found {i} {place} {next} h =
+    let here : place ≡ o + i .at = omega (arith, h .there, h .here) in
+    rw (near o (length s) (h .near), h .walk, here) (turn wanted n found (shiftItem o i) (walkFrom (o + next) (drop next s)) (h .of .least))
 
 abbrev Inv-loop : tie.InvT-loop
 Inv-loop options offset wanted c₀ n₀ found₀ c n found =
@@ -89,8 +106,8 @@ enum-known-option c = search needs
 add-n : tie.Need-add-n Inv-loop μ-loop
 add-n c = search needs
 
-found-by-requires : tie.Need-found-by-requires Inv-loop μ-loop
-found-by-requires c κs = search needs
+first-by-requires : tie.Need-first-by-requires Inv-loop μ-loop
+first-by-requires c κs = search needs
 
 loop-less : tie.Need-loop-less Inv-loop μ-loop
 loop-less c = let o = onward (c .before .before) in omega arith
@@ -103,7 +120,7 @@ loop-again c =
     let o = onward arm in (
       o .inside,
       omega arith,
-      at .loop .inv .2 ∙ rw (c .found-by .ensures) (goes-on (a .offset) (a .options .now) (at .loop .c .at) (a .wanted .0) (at .loop .n) (at .loop .found) o),
+      at .loop .inv .2 ∙ rw (c .first-by .ensures) (goes-on (a .offset) (a .options .now) (at .loop .c .at) (a .wanted .0) (at .loop .n) (at .loop .found) o),
     )
 
 enum-told : tie.Need-enum-told Inv-loop μ-loop
@@ -144,7 +161,7 @@ walk-all-spec =
     step-requires
     enum-known-option
     add-n
-    found-by-requires
+    first-by-requires
     loop-less
     loop-again
     enum-told

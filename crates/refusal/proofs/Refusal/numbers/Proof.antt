@@ -19,35 +19,35 @@ enum-known-self-4 c = search needs
 enum-known-self-5 : tie.Need-enum-known-self-5
 enum-known-self-5 c = search needs
 
-cast-t45 : tie.Need-cast-t45
-cast-t45 c = search needs
+cast-t48 : tie.Need-cast-t48
+cast-t48 c = search needs
 
 enum-known-self-6 : tie.Need-enum-known-self-6
 enum-known-self-6 c = search needs
 
-cast-t50 : tie.Need-cast-t50
-cast-t50 c = search needs
+cast-t53 : tie.Need-cast-t53
+cast-t53 c = search needs
 
 enum-known-self-7 : tie.Need-enum-known-self-7
 enum-known-self-7 c = search needs
 
-cast-t53 : tie.Need-cast-t53
-cast-t53 c = search needs
+cast-t56 : tie.Need-cast-t56
+cast-t56 c = search needs
 
 enum-known-self-8 : tie.Need-enum-known-self-8
 enum-known-self-8 c = search needs
 
-cast-t58 : tie.Need-cast-t58
-cast-t58 c = search needs
-
-cast-t59 : tie.Need-cast-t59
-cast-t59 c = search needs
-
-cast-t60 : tie.Need-cast-t60
-cast-t60 c = search needs
-
 cast-t61 : tie.Need-cast-t61
 cast-t61 c = search needs
+
+cast-t62 : tie.Need-cast-t62
+cast-t62 c = search needs
+
+cast-t63 : tie.Need-cast-t63
+cast-t63 c = search needs
+
+cast-t64 : tie.Need-cast-t64
+cast-t64 c = search needs
 
 enum-known-self-9 : tie.Need-enum-known-self-9
 enum-known-self-9 c = search needs
@@ -55,17 +55,17 @@ enum-known-self-9 c = search needs
 enum-known-self-10 : tie.Need-enum-known-self-10
 enum-known-self-10 c = search needs
 
-cast-t66 : tie.Need-cast-t66
-cast-t66 c = search needs
+cast-t69 : tie.Need-cast-t69
+cast-t69 c = search needs
 
-cast-t67 : tie.Need-cast-t67
-cast-t67 c = search needs
+cast-t70 : tie.Need-cast-t70
+cast-t70 c = search needs
 
 enum-known-self-11 : tie.Need-enum-known-self-11
 enum-known-self-11 c = search needs
 
-cast-t69 : tie.Need-cast-t69
-cast-t69 c = search needs
+cast-t72 : tie.Need-cast-t72
+cast-t72 c = search needs
 
 enum-known-self-12 : tie.Need-enum-known-self-12
 enum-known-self-12 c = search needs
@@ -75,6 +75,15 @@ enum-known-self-13 c = search needs
 
 enum-known-self-14 : tie.Need-enum-known-self-14
 enum-known-self-14 c = search needs
+
+enum-known-self-15 : tie.Need-enum-known-self-15
+enum-known-self-15 c = search needs
+
+enum-known-self-16 : tie.Need-enum-known-self-16
+enum-known-self-16 c = search needs
+
+enum-known-self-17 : tie.Need-enum-known-self-17
+enum-known-self-17 c = search needs
 
 enum-told : tie.Need-enum-told
 enum-told c = search needs
@@ -122,7 +131,16 @@ returns-14 : tie.Need-returns-14
 returns-14 c = rw (c .before .self14 .given .1)
 
 returns-15 : tie.Need-returns-15
-returns-15 c = rw (c .enum-told .given .1)
+returns-15 c = rw (c .before .self15 .given .1)
+
+returns-16 : tie.Need-returns-16
+returns-16 c = rw (c .before .self16 .given .1)
+
+returns-17 : tie.Need-returns-17
+returns-17 c = rw (c .before .self17 .given .1)
+
+returns-18 : tie.Need-returns-18
+returns-18 c = rw (c .enum-told .given .1)
 
 pub numbers-spec : {M : Type 1} → statement M
 numbers-spec =
@@ -133,25 +151,28 @@ numbers-spec =
     enum-known-self-3
     enum-known-self-4
     enum-known-self-5
-    cast-t45
+    cast-t48
     enum-known-self-6
-    cast-t50
-    enum-known-self-7
     cast-t53
+    enum-known-self-7
+    cast-t56
     enum-known-self-8
-    cast-t58
-    cast-t59
-    cast-t60
     cast-t61
+    cast-t62
+    cast-t63
+    cast-t64
     enum-known-self-9
     enum-known-self-10
-    cast-t66
-    cast-t67
-    enum-known-self-11
     cast-t69
+    cast-t70
+    enum-known-self-11
+    cast-t72
     enum-known-self-12
     enum-known-self-13
     enum-known-self-14
+    enum-known-self-15
+    enum-known-self-16
+    enum-known-self-17
     enum-told
     returns
     returns-2
@@ -167,4 +188,7 @@ numbers-spec =
     returns-12
     returns-13
     returns-14
-    returns-15)
+    returns-15
+    returns-16
+    returns-17
+    returns-18)

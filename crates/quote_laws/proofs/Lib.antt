@@ -1,0 +1,9 @@
+pub mod Bounds
+pub mod Level
+pub mod Origin
+pub mod Moved
+pub mod Messages
+pub mod Bodies
+pub mod Fields
+pub mod Never
+pub mod Cases

@@ -1,0 +1,5 @@
+pub mod Head
+pub mod Chain
+pub mod Told
+pub mod Reading
+pub mod Levels
