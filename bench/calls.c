@@ -24,8 +24,8 @@ typedef struct brothladder_written (*write_fn)(uint8_t, uint8_t, uint32_t, const
     struct brothladder_chain plain_chain_##tag(const uint8_t *, size_t);                                                    \
     struct brothladder_written plain_write_##tag(uint8_t, uint8_t, uint32_t, const uint8_t *, size_t, const uint8_t *,      \
                                                  const uint8_t *, uint8_t *, size_t);                                       \
-    struct brothladder_written plain_write_keeping_##tag(uint8_t, uint8_t, uint32_t, const uint8_t *, size_t,               \
-                                                         const uint8_t *, const uint8_t *, uint8_t *, size_t);
+    struct brothladder_written plain_write_clearing_##tag(uint8_t, uint8_t, uint32_t, const uint8_t *, size_t,              \
+                                                          const uint8_t *, const uint8_t *, uint8_t *, size_t);
 PLAIN(O2)
 PLAIN(O3)
 PLAIN(clang)
@@ -34,7 +34,11 @@ PLAIN(clang)
 struct brothladder_head nothing(const uint8_t *, size_t);
 __asm__(".text\n.globl nothing\nnothing: mov %rdi, %rax\nret\n");
 
-#define SET(name, p, t) {name, p##decode##t, p##verify##t, p##receive##t, p##step##t, p##prefix##t, p##write##t, p##write_keeping##t, p##chain##t}
+/* the ways to write: what a sender of his own messages calls, which is what `check` compares of the stored frames; the default; its other name */
+enum { CLEARING, DEFAULT, KEEPING, WAYS };
+
+#define SET(name, p, t) {name, p##decode##t, p##verify##t, p##receive##t, p##step##t, p##prefix##t, {p##write_clearing##t, p##write##t, p##write##t}, \
+                         p##chain##t}
 static const struct set {
     const char *name;
     decode_fn decode;
@@ -42,18 +46,19 @@ static const struct set {
     receive_fn receive;
     step_fn step;
     prefix_fn prefix;
-    write_fn write, keep;
+    write_fn write[WAYS];
     chain_fn chain;
 } sets[] = {
-    {"nothing", nothing, (verify_fn)nothing, (receive_fn)nothing, (step_fn)nothing, (prefix_fn)nothing, (write_fn)nothing, (write_fn)nothing, (chain_fn)nothing},
-    {"this library", brothladder_decode, brothladder_verify, brothladder_receive, brothladder_step, brothladder_read_prefix, brothladder_write_clearing,
-     brothladder_write_keeping, brothladder_chain},
+    {"nothing", nothing, (verify_fn)nothing, (receive_fn)nothing, (step_fn)nothing, (prefix_fn)nothing, {(write_fn)nothing, (write_fn)nothing, (write_fn)nothing},
+     (chain_fn)nothing},
+    {"this library", brothladder_decode, brothladder_verify, brothladder_receive, brothladder_step, brothladder_read_prefix,
+     {brothladder_write_clearing, brothladder_write, brothladder_write_keeping}, brothladder_chain},
     SET("plain C, gcc -O2", plain_, _O2),
     SET("plain C, gcc -O3", plain_, _O3),
     SET("plain C, the toolchain's clang -O3", plain_, _clang),
 };
-enum { SETS = sizeof sets / sizeof *sets, CALLS = 8, CHAIN = 7 };
-static const char *const calls[CALLS] = {"decode", "verify", "receive check", "walk", "prefix", "write", "write keeping", "chain"};
+enum { SETS = sizeof sets / sizeof *sets, WRITE = 5, CHAIN = WRITE + WAYS, CALLS };
+static const char *const calls[CALLS] = {"decode", "verify", "receive check", "walk", "prefix", "write clearing", "write", "write keeping", "chain"};
 
 static inline void mark(long a, long b) {
     long r;
@@ -65,9 +70,9 @@ static struct brothladder_verified verified;
 static struct brothladder_received received;
 static struct brothladder_stepped stepped;
 static struct brothladder_prefix prefix;
-static struct brothladder_written written, kept;
+static struct brothladder_written written[WAYS];
 static struct brothladder_chain chain;
-static uint8_t out[2048], whole[2048];
+static uint8_t out[WAYS][2048];
 static size_t options;
 
 /* a caller's loop: steps from 0 until no option comes */
@@ -76,6 +81,8 @@ static __attribute__((noinline)) size_t walk(step_fn step, const uint8_t *p, siz
     while ((stepped = step(p, n, offset, at)).answer == BROTHLADDER_OPTION) at = stepped.next, count++;
     return count;
 }
+
+static inline uint32_t word(const uint8_t *p) { return (uint32_t)p[0] << 24 | (uint32_t)p[1] << 16 | (uint32_t)p[2] << 8 | p[3]; }
 
 static __attribute__((noinline)) void measure(const struct set *s, int call, long id, const uint8_t *r, size_t n) {
     const uint8_t *p = r + 37;
@@ -87,8 +94,9 @@ static __attribute__((noinline)) void measure(const struct set *s, int call, lon
         case 2: received = s->receive(p, n, r[2], r + 3, r + 19); break;
         case 3: if (s != sets) options = walk(s->step, p + 16, n - 16, 16); break;
         case 4: prefix = s->prefix(p + 16, 32, 16); break;
-        case 5: written = s->write(p[0], p[1], (uint32_t)p[4] << 24 | (uint32_t)p[5] << 16 | (uint32_t)p[6] << 8 | p[7], p + 8, n - 8, r + 3, r + 19, out, sizeof out); break;
-        case 6: kept = s->keep(p[0], p[1], (uint32_t)p[4] << 24 | (uint32_t)p[5] << 16 | (uint32_t)p[6] << 8 | p[7], p + 8, n - 8, r + 3, r + 19, whole, sizeof whole); break;
+        case WRITE + CLEARING: written[CLEARING] = s->write[CLEARING](p[0], p[1], word(p + 4), p + 8, n - 8, r + 3, r + 19, out[CLEARING], sizeof *out); break;
+        case WRITE + DEFAULT: written[DEFAULT] = s->write[DEFAULT](p[0], p[1], word(p + 4), p + 8, n - 8, r + 3, r + 19, out[DEFAULT], sizeof *out); break;
+        case WRITE + KEEPING: written[KEEPING] = s->write[KEEPING](p[0], p[1], word(p + 4), p + 8, n - 8, r + 3, r + 19, out[KEEPING], sizeof *out); break;
         case CHAIN: chain = s->chain(p, n); break;
         }
         if (i) mark(id, (long)n);
@@ -101,27 +109,28 @@ static int check(const uint8_t *r, size_t n) {
     static struct brothladder_received received0;
     static struct brothladder_stepped stepped0;
     static struct brothladder_prefix prefix0;
-    static struct brothladder_written written0, kept0;
-    static uint8_t out0[2048], whole0[2048];
+    static struct brothladder_written written0[WAYS];
+    static uint8_t out0[WAYS][2048];
     size_t options0 = 0;
     for (int s = 1; s < SETS; s++) {
         memset(out, 0, sizeof out);
-        memset(whole, 0, sizeof whole);
         for (int c = 0; c < CHAIN; c++) measure(&sets[s], c, -1, r, n);
         if (s == 1) {
-            head0 = head, verified0 = verified, received0 = received, stepped0 = stepped, prefix0 = prefix, written0 = written, kept0 = kept, options0 = options;
+            head0 = head, verified0 = verified, received0 = received, stepped0 = stepped, prefix0 = prefix, options0 = options;
+            memcpy(written0, written, sizeof written);
             memcpy(out0, out, sizeof out);
-            memcpy(whole0, whole, sizeof whole);
         } else if (memcmp(&head, &head0, sizeof head) || memcmp(&verified, &verified0, sizeof verified) ||
                    memcmp(&received, &received0, sizeof received) || memcmp(&stepped, &stepped0, sizeof stepped) ||
-                   memcmp(&prefix, &prefix0, sizeof prefix) || memcmp(&written, &written0, sizeof written) || memcmp(&kept, &kept0, sizeof kept) ||
-                   options != options0 || memcmp(out, out0, sizeof out) || memcmp(whole, whole0, sizeof whole)) {
+                   memcmp(&prefix, &prefix0, sizeof prefix) || memcmp(written, written0, sizeof written) || options != options0 ||
+                   memcmp(out, out0, sizeof out)) {
             printf("%s answers otherwise\n", sets[s].name);
             return 1;
         }
     }
     printf("%zu bytes, %zu options: all answer alike; received %d, ended %d\n", n, options0, received0.answer == BROTHLADDER_RECEIVED, stepped0.answer == BROTHLADDER_END);
-    return received0.answer != BROTHLADDER_RECEIVED || stepped0.answer != BROTHLADDER_END || written0.answer != BROTHLADDER_WRITTEN || kept0.answer != BROTHLADDER_WRITTEN;
+    for (int way = 0; way < WAYS; way++)
+        if (written0[way].answer != BROTHLADDER_WRITTEN) return 1;
+    return received0.answer != BROTHLADDER_RECEIVED || stepped0.answer != BROTHLADDER_END;
 }
 
 /* a record with an advertisement of 1,240 bytes: 38 prefixes and an MTU */
@@ -133,8 +142,8 @@ static const uint8_t *longest(void) {
     r[18] = 1, r[19] = 0xff, r[20] = 2, r[34] = 1, r[35] = 1240 / 256, r[36] = 1240 % 256;
     for (int i = 0; i < 38; i++) memcpy(p + 16 + 32 * i, prefix, sizeof prefix), p[16 + 32 * i + 21] = (uint8_t)i;
     memcpy(p + 1232, mtu, sizeof mtu);
-    written = brothladder_write(134, 0, 0x40000708, p + 8, 1232, r + 3, r + 19, out, sizeof out);
-    memcpy(p, out, 8);
+    written[CLEARING] = brothladder_write_clearing(134, 0, 0x40000708, p + 8, 1232, r + 3, r + 19, out[CLEARING], sizeof *out);
+    memcpy(p, out[CLEARING], 8);
     return r;
 }
 

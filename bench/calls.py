@@ -7,7 +7,7 @@ import re
 import sys
 from functools import lru_cache
 
-CALLS = ["decode", "verify", "receive", "step", "read_prefix", "write", "write_clearing", "write_keeping", "chain", "version_3"]
+CALLS = ["decode", "verify", "receive", "step", "read_prefix", "write", "write_clearing", "write_keeping", "chain", "version_4"]
 AIM_CODE, AIM_STACK = 16 * 1024, {c: 1536 if c == "chain" else 512 for c in CALLS}
 # the functions that come back to themselves, and how often each is entered at most: a packet and eight levels have nine messages, and the ninth quote is
 # refused (docs/RULES.md Q11)
@@ -34,7 +34,8 @@ def title(call, length):
     return call if call in ("decode", "prefix") else f"{call}, {CHAINS[length]}" if call == "chain" else f"{call}, {length:,}"
 
 
-columns = [("decode", small), ("receive check", small), ("receive check", large), ("walk", small), ("walk", large), ("prefix", small), ("write", small), ("write", large), ("write", longest), ("write keeping", small), ("write keeping", large), ("write keeping", longest), *(("chain", n) for n in CHAINS)]
+columns = [("decode", small), ("receive check", small), ("receive check", large), ("walk", small), ("walk", large), ("prefix", small)]
+columns += [(way, n) for way in ("write", "write clearing", "write keeping") for n in (small, large, longest)] + [("chain", n) for n in CHAINS]
 rows = ["| | " + " | ".join(title(c, n) for c, n in columns) + " |", "|---|" + "---|" * len(columns)]
 rows += [f"| {who} | " + " | ".join(f"{cost(who, c, n):,}" for c, n in columns) + " |" for who in sets]
 

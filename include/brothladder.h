@@ -1,6 +1,6 @@
 /* brothladder.h: reads, checks and writes ICMPv6 and Neighbor Discovery packets. docs/RULES.md has every rule, area X these calls.
  *
- * Each call takes numbers and byte buffers and returns one struct by value (brothladder_version_3 takes nothing and returns a number).
+ * Each call takes numbers and byte buffers and returns one struct by value (brothladder_version_4 takes nothing and returns a number).
  * You may pass any bytes of any length. A call allocates nothing, keeps nothing from one call to the next, and uses no C library.
  *
  * The first field of each struct, `answer`, says what was found. `answer` is never 0: compare it with the constants below, do not
@@ -33,12 +33,14 @@
  * the packet, as a trace does. Only you know where in the packet your bytes begin: pass it as `offset`, or 0 to count from your own
  * first byte.
  *
- * Versions: this is version 3, in which the head has `bytes5to8` and wider fields. Version 2 brought the offset and the place;
- * version 1 is the header without BROTHLADDER_VERSION. Under GCC and clang each object that includes this header refers to the call
- * brothladder_version_3, so an object that was compiled with the header of a later version does not link with this library, nor one
- * of this version with a later library. Objects of version 1 have no such reference: they would link, and go wrong. So compile all
- * of them anew once. Each later change of a struct, an argument or a meaning takes the next number. A call that is added takes none:
- * whoever makes it does not link with a library that lacks it.
+ * Versions: this is version 4. No struct and no argument is another than in version 3, but brothladder_write means something else: it
+ * cleared the reserved bits of `bytes5to8`, and now it writes them. Whoever left anything in them and relied on the call to clear it
+ * now sends it, and calls brothladder_write_clearing instead. Version 3 brought `bytes5to8` and wider fields of the head, version 2 the
+ * offset and the place; version 1 is the header without BROTHLADDER_VERSION. Under GCC and clang each object that includes this header
+ * refers to the call brothladder_version_4, so an object that was compiled with the header of another version does not link with this
+ * library, nor one of this version with another library. Objects of version 1 have no such reference: they would link, and go wrong. So
+ * compile all of them anew once. Each later change of a struct, an argument or a meaning takes the next number. A call that is added
+ * takes none: whoever makes it does not link with a library that lacks it.
  *
  * What you must ensure: each pointer can be read (`out`: written) for the length that goes with it, and an address for 16 bytes. A
  * pointer may be NULL only if its length is 0. Nobody else writes to a buffer during the call. `out` does not overlap another
@@ -70,8 +72,8 @@ extern "C" {
 #define BROTHLADDER_ADDRESSES(a, b)
 #endif
 
-/* The version of this header: see the top of the file, and brothladder_version_3 at its end. */
-#define BROTHLADDER_VERSION 3u
+/* The version of this header: see the top of the file, and brothladder_version_4 at its end. */
+#define BROTHLADDER_VERSION 4u
 
 /* Values of `answer`. They all differ, over all calls, and none is 0. */
 #define BROTHLADDER_REFUSED 1u  /* any call: the input was bad; `refusal` and `value` say why */
@@ -164,7 +166,7 @@ struct brothladder_head {
     uint32_t type;
     uint32_t code;
     uint32_t checksum;  /* the field as it stands in the packet */
-    uint32_t bytes5to8; /* bytes 4 to 7 as they stand, as one number, high byte first: what brothladder_write_keeping takes */
+    uint32_t bytes5to8; /* bytes 4 to 7 as they stand, as one number, high byte first: what brothladder_write takes */
     uint32_t field[4];  /* by BROTHLADDER_FIELD_.. */
 };
 
@@ -263,11 +265,14 @@ BROTHLADDER_ANSWER
 struct brothladder_prefix brothladder_read_prefix(const uint8_t *option, size_t length, size_t offset);
 
 /* Writes a packet to the start of `out`: the head with the computed checksum, then the payload; 8 + payload_length bytes in all.
- * `bytes5to8` is bytes 4 to 7 of the head as one number, high byte first. For a known type and code the reserved bits of it are
- * written as 0 by brothladder_write_clearing and as they stand by brothladder_write_keeping; for any other pair all of it is written.
- * brothladder_write is the default: today it clears. Whoever sends a message of his own clears; a gateway that passes a message on
- * keeps, and takes `type`, `code` and `bytes5to8` from the decoded head. The checksum is computed anew, for the bytes that are written:
- * a checksum of one way is not right for the bytes of the other.
+ * `bytes5to8` is bytes 4 to 7 of the head as one number, high byte first. All of it is written as given, reserved bits too. A sender
+ * of types 133 to 137 that makes its own message calls brothladder_write_clearing: RFC 4861, sections 4.1 to 4.5, asks for 0 in reserved
+ * fields. That call writes 0 in every reserved bit of a known type and code, and any other pair as given. brothladder_write_keeping is
+ * another name of brothladder_write.
+ * To pass a message on, take `type`, `code` and `bytes5to8` from the decoded head and the bytes behind the head as payload: what is
+ * written is the packet as it came, with its checksum computed anew. So a packet whose checksum was wrong gets a right one: do the
+ * receive check first. And where ff ff stood in the field for a computed 0, 00 00 is written; both are valid. The checksum is that of
+ * the bytes that are written: that of brothladder_write is not right for the bytes of brothladder_write_clearing.
  * For types 133 to 137 with code 0 the payload must hold the whole fixed part and then options that walk to END; any other payload is
  * written as it is.
  * Refusals, in this order: 3; then, for types 133 to 137 with code 0, 4 and 5, 6 or 7, with the place in the packet that is being written;
@@ -307,7 +312,7 @@ struct brothladder_chain brothladder_chain(const uint8_t *packet, size_t length)
 
 /* Returns BROTHLADDER_VERSION. You need not call it: it is here to be referred to. `retain` keeps the reference where the linker drops
  * what nobody uses. */
-uint32_t brothladder_version_3(void);
+uint32_t brothladder_version_4(void);
 
 #if defined(__GNUC__)
 #if defined(__has_attribute)
@@ -318,7 +323,7 @@ uint32_t brothladder_version_3(void);
 #ifndef BROTHLADDER_RETAIN
 #define BROTHLADDER_RETAIN
 #endif
-__attribute__((used)) BROTHLADDER_RETAIN static uint32_t (*const brothladder_version)(void) = brothladder_version_3;
+__attribute__((used)) BROTHLADDER_RETAIN static uint32_t (*const brothladder_version)(void) = brothladder_version_4;
 #endif
 
 #ifdef __cplusplus

@@ -66,7 +66,7 @@ static void layout(void) {
         check(answers[i] != 0, "no answer is 0", "");
         for (size_t j = 0; j < i; j++) check(answers[i] != answers[j], "two answers differ", "");
     }
-    same("the version", brothladder_version_3(), BROTHLADDER_VERSION);
+    same("the version", brothladder_version_4(), BROTHLADDER_VERSION);
 }
 
 static void worked(void) {

@@ -74,6 +74,10 @@ void often(const char *what, const unsigned long *counts, const char *numbers);
 enum { LONGEST = 400 };
 void write_again(const uint8_t *packet, size_t n, const uint8_t *source, const uint8_t *destination);
 
+/* Passes a packet on that was received, and sends it as one's own; and whether those that were had reserved bits to keep. */
+void pass_on(const uint8_t *packet, size_t n, const uint8_t *source, const uint8_t *destination);
+void passed_on(void);
+
 /* Up to four options in good order, and bytes that are damaged; the length of what is there. */
 size_t some_options(uint8_t *p);
 size_t damage(uint8_t *p, size_t n);
@@ -81,6 +85,7 @@ size_t damage(uint8_t *p, size_t n);
 void fields(void);  /* where each field of a head stands */
 void cases(void);   /* the worked cases P1 to P13, every refusal, edges */
 void writes(void);  /* the packet writer */
+void forwards(void); /* packets that are passed on */
 void joined(void);  /* option lists cut at every place */
 void damaged(void); /* 100,000 packets, random and damaged, beside plain.c */
 void quotes(void);  /* packets quoted in packets: the worked cases of area Q, and 100,000 nests beside plain.c */

@@ -1,5 +1,5 @@
 /* 100,000 packets, random and damaged, with the answers of plain.c beside those of the library. Each answer must turn up often
-   enough that the comparison says something. */
+   enough that the comparison says something. What is received is passed on (forward.c). */
 #include "check.h"
 #include "plain.h"
 #include <stdio.h>
@@ -44,6 +44,7 @@ static size_t message(uint8_t *p, uint8_t *source, uint8_t *destination) {
     p[1] = 0;
     if (k >= 2 && k <= 4) any_address(p + 8);
     if (k == 4) any_address(p + 24);
+    if (k == 4 && below(2)) memcpy(p + 24, p + 8, 16); /* to a neighbor: its own target */
     any_address(source);
     any_address(destination);
     if ((k == 1 || k == 4) && below(4)) memcpy(source, addresses[1], 16);
@@ -122,7 +123,9 @@ static void reads(const uint8_t *packet, size_t n, uint8_t hop_limit, const uint
     same_answer("receive", &r, &rw, sizeof r);
     note(r.answer, r.refusal, r.value[0]);
     check(stands(PACKET, packet, n) && stands(SOURCE, source, 16) && stands(DESTINATION, destination, 16), "reading", "all is left alone");
-    if (r.answer == BROTHLADDER_RECEIVED) walks(packet + r.options_at, r.options_length, r.options_at);
+    if (r.answer != BROTHLADDER_RECEIVED) return;
+    walks(packet + r.options_at, r.options_length, r.options_at);
+    pass_on(packet, n, source, destination);
 }
 
 void often(const char *what, const unsigned long *counts, const char *numbers) {
@@ -159,4 +162,5 @@ void damaged(void) {
     often("answer", seen, "1 2 3 4 5 6 7 8 9 10 11");
     often("refusal", refusals, "1 4 5 6 7 8 9 11 22");
     often("reason", reasons, "1 2 3 4 5 6 7 8");
+    passed_on();
 }

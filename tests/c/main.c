@@ -6,6 +6,7 @@ int main(void) {
     fields();
     cases();
     writes();
+    forwards();
     joined();
     damaged();
     quotes();

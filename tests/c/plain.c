@@ -256,13 +256,13 @@ static struct brothladder_written write_head(uint8_t type, uint8_t code, uint32_
 
 struct brothladder_written plain_write(uint8_t type, uint8_t code, uint32_t bytes5to8, const uint8_t *payload, size_t payload_length,
                                        const uint8_t *source, const uint8_t *destination, uint8_t *out, size_t out_length) {
-    return write_head(type, code, cleared(type, code, bytes5to8), payload, payload_length, source, destination, out, out_length);
+    return write_head(type, code, bytes5to8, payload, payload_length, source, destination, out, out_length);
 }
 
-struct brothladder_written plain_write_keeping(uint8_t type, uint8_t code, uint32_t bytes5to8, const uint8_t *payload,
-                                               size_t payload_length, const uint8_t *source, const uint8_t *destination, uint8_t *out,
-                                               size_t out_length) {
-    return write_head(type, code, bytes5to8, payload, payload_length, source, destination, out, out_length);
+struct brothladder_written plain_write_clearing(uint8_t type, uint8_t code, uint32_t bytes5to8, const uint8_t *payload,
+                                                size_t payload_length, const uint8_t *source, const uint8_t *destination, uint8_t *out,
+                                                size_t out_length) {
+    return write_head(type, code, cleared(type, code, bytes5to8), payload, payload_length, source, destination, out, out_length);
 }
 
 /* O1 and O4: a prefix information option. */

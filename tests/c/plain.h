@@ -10,9 +10,9 @@ struct brothladder_received plain_receive(const uint8_t *packet, size_t length, 
                                           const uint8_t *destination);
 struct brothladder_written plain_write(uint8_t type, uint8_t code, uint32_t bytes5to8, const uint8_t *payload, size_t payload_length,
                                        const uint8_t *source, const uint8_t *destination, uint8_t *out, size_t out_length);
-struct brothladder_written plain_write_keeping(uint8_t type, uint8_t code, uint32_t bytes5to8, const uint8_t *payload,
-                                               size_t payload_length, const uint8_t *source, const uint8_t *destination, uint8_t *out,
-                                               size_t out_length);
+struct brothladder_written plain_write_clearing(uint8_t type, uint8_t code, uint32_t bytes5to8, const uint8_t *payload,
+                                                size_t payload_length, const uint8_t *source, const uint8_t *destination, uint8_t *out,
+                                                size_t out_length);
 struct brothladder_prefix plain_prefix(const uint8_t *option, size_t length, size_t offset);
 struct brothladder_chain plain_chain(const uint8_t *packet, size_t length);
 

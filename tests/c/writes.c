@@ -4,7 +4,7 @@
 #include <stdio.h>
 #include <string.h>
 
-/* The default, which clears, and both ways by their names; and the same in plain C. */
+/* The default, which keeps, and both ways by their names; and the same in plain C. */
 enum way { DEFAULT, CLEARING, KEEPING, WAYS };
 
 static struct brothladder_written by(enum way way, const uint8_t head[8], const uint8_t *payload, size_t n, const uint8_t *source,
@@ -20,8 +20,8 @@ static struct brothladder_written by(enum way way, const uint8_t head[8], const 
 static struct brothladder_written plain_by(enum way way, const uint8_t head[8], const uint8_t *payload, size_t n, const uint8_t *source,
                                            const uint8_t *destination, uint8_t *out, size_t room) {
     uint32_t rest = (uint32_t)head[4] << 24 | (uint32_t)head[5] << 16 | (uint32_t)head[6] << 8 | head[7];
-    return way == KEEPING ? plain_write_keeping(head[0], head[1], rest, payload, n, source, destination, out, room)
-                          : plain_write(head[0], head[1], rest, payload, n, source, destination, out, room);
+    return way == CLEARING ? plain_write_clearing(head[0], head[1], rest, payload, n, source, destination, out, room)
+                           : plain_write(head[0], head[1], rest, payload, n, source, destination, out, room);
 }
 
 /* The refusals of a walk come behind the fixed part too; whatever is refused, the output stays. */
@@ -85,7 +85,7 @@ static void write_pairs(void) {
     }
 }
 
-/* A head with one bit of bytes 4 to 7, read and written: kept it comes back whole, cleared without that bit where it is reserved (H8). */
+/* A head with one bit of bytes 4 to 7, read and written: by the default it comes back whole, cleared without that bit where it is reserved (H8). */
 static unsigned reserved_bits(uint8_t type, size_t fixed) {
     unsigned reserved = 0;
     for (int bit = 0; bit < 32; bit++) {
@@ -95,7 +95,7 @@ static unsigned reserved_bits(uint8_t type, size_t fixed) {
         came[2] = (uint8_t)(sum >> 8);
         came[3] = (uint8_t)sum;
         struct brothladder_head h = brothladder_decode(came, 8 + fixed);
-        struct brothladder_written w = brothladder_write_keeping((uint8_t)h.type, (uint8_t)h.code, h.bytes5to8, came + 8, fixed, router, all_routers, kept, sizeof kept);
+        struct brothladder_written w = brothladder_write((uint8_t)h.type, (uint8_t)h.code, h.bytes5to8, came + 8, fixed, router, all_routers, kept, sizeof kept);
         same("kept", w.length, 8 + fixed);
         check(memcmp(kept, came, 8) == 0, "kept", "the eight bytes that came");
         w = brothladder_write_clearing((uint8_t)h.type, (uint8_t)h.code, h.bytes5to8, came + 8, fixed, router, all_routers, cleared, sizeof cleared);
@@ -122,7 +122,7 @@ static void write_bits(void) {
 /* The checksum of one way does not go with the bytes of the other (docs/RULES.md S11). */
 static void write_mixed(void) {
     uint8_t kept[16], cleared[16];
-    struct brothladder_written w = brothladder_write_keeping(134, 0, 0x40080708, none, 8, none, none, kept, sizeof kept);
+    struct brothladder_written w = brothladder_write(134, 0, 0x40080708, none, 8, none, none, kept, sizeof kept);
     same("kept", w.answer, BROTHLADDER_WRITTEN);
     w = brothladder_write_clearing(134, 0, 0x40080708, none, 8, none, none, cleared, sizeof cleared);
     same("cleared", w.answer, BROTHLADDER_WRITTEN);
@@ -151,7 +151,7 @@ static void write_by(enum way way, const uint8_t *packet, size_t n, const uint8_
     same("written validates", brothladder_verify(o, w.length, from, to).answer, BROTHLADDER_VALID);
     struct brothladder_head came = brothladder_decode(packet, n), went = brothladder_decode(o, w.length);
     went.checksum = came.checksum;
-    if (way != KEEPING) went.bytes5to8 = came.bytes5to8; /* what is left of it stands in `wanted` */
+    if (way == CLEARING) went.bytes5to8 = came.bytes5to8; /* what is left of it stands in `wanted` */
     same_answer("write then read", &went, &came, sizeof went);
 }
 

@@ -85,10 +85,10 @@ MISTAKES = [
     ("the refusal of a far offset with another number", {HEADER: instead("FAR_OFFSET 22u", "FAR_OFFSET 15u")}, ["header"]),
     ("offset and place exchanged in a prototype", {HEADER: instead("size_t offset, size_t at);", "size_t at, size_t offset);")}, ["header"]),
     ("an argument left out of a prototype", {HEADER: instead("*option, size_t length, size_t offset);", "*option, size_t length);")}, ["header"]),
-    ("another version in the header", {HEADER: instead("VERSION 3u", "VERSION 4u")}, ["header"]),
-    ("another version in the source", {VERSION: instead("VERSION: u32 = 3", "VERSION: u32 = 4")}, ["header"]),
-    ("a version whose call keeps its name", {HEADER: instead("VERSION 3u", "VERSION 4u"), VERSION: instead("VERSION: u32 = 3", "VERSION: u32 = 4")}, ["header"]),
-    ("no reference to the version", {HEADER: instead("(void) = brothladder_version_3;", "(void) = 0;")}, ["header"]),
+    ("another version in the header", {HEADER: instead("VERSION 4u", "VERSION 5u")}, ["header"]),
+    ("another version in the source", {VERSION: instead("VERSION: u32 = 4", "VERSION: u32 = 5")}, ["header"]),
+    ("a version whose call keeps its name", {HEADER: instead("VERSION 4u", "VERSION 5u"), VERSION: instead("VERSION: u32 = 4", "VERSION: u32 = 5")}, ["header"]),
+    ("no reference to the version", {HEADER: instead("(void) = brothladder_version_4;", "(void) = 0;")}, ["header"]),
     ("a member without its place", {"tests/c/layout.c": instead("AT(stepped, next, 72, 8);\n", "")}, ["header"]),
 ]
 failed = 0

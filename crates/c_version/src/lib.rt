@@ -2,11 +2,11 @@
 // header of another version does not link.
 ghost use mathlib.Core.Path.{_≡_};
 
-pub const VERSION: u32 = 3;
+pub const VERSION: u32 = 4;
 
 #[no_mangle]
-pub extern "C" fn brothladder_version_3() -> u32
-    ensures { λ r. ⌜ r ≡ 3 ⌝ }
+pub extern "C" fn brothladder_version_4() -> u32
+    ensures { λ r. ⌜ r ≡ 4 ⌝ }
 {
     VERSION
 }

@@ -1,7 +1,7 @@
 // Runs RFC 1071's worked example, the cases P11 to P13 of docs/RULES.md and the packets of real captures.
 // Standard input holds records (docs/RULES.md C1). A line for each has the checksum that is computed
 // for its packet and the verdict; then each of its bytes is inverted in turn, and no such packet may validate. At the end stands
-// how many heads that were read, given their checksum anew and written are those that came in: clearing, and keeping.
+// how many heads that were read, given their checksum anew and written are those that came in: clearing, and by the default.
 ghost use Prim.Native.Nat.{_+_, _≤_};
 ghost use lib.ListN.{length};
 use capture::Next;
@@ -131,7 +131,7 @@ fn comes_cleared(
     begins(packet, again.to_bytes_clearing())
 }
 
-// The same with the reserved bits that it kept. Bytes 4 to 7 come of the value and what was kept, too.
+// The same by the default, which writes the reserved bits that it kept, and by its other name. Bytes 4 to 7 come of the value and what was kept, too.
 fn comes_kept(read: Icmpv6Header, packet: &[u8], source: &[u8; 16], destination: &[u8; 16]) -> u64
     ensures { λ r. ⌜ r ≤ 1 ⌝ }
 {
@@ -149,10 +149,13 @@ fn comes_kept(read: Icmpv6Header, packet: &[u8], source: &[u8; 16], destination:
     ) else {
         return 0;
     };
-    begins(packet, again.to_bytes_keeping())
+    if begins(packet, again.to_bytes_keeping()) == 0 {
+        return 0;
+    }
+    begins(packet, again.to_bytes())
 }
 
-// What a record adds up to: damaged packets that survive, heads that come again clearing, and keeping.
+// What a record adds up to: damaged packets that survive, heads that come again clearing, and by the default, which keeps.
 struct Tally {
     survivors: u64,
     cleared: u64,
@@ -202,7 +205,7 @@ fn say_place(number: u64, at: usize) {
 fn say_totals(records: u64, cleared: u64, kept: u64, survivors: u64, left: usize) {
     say_number(b"records ", records);
     say_number(b" cleared ", cleared);
-    say_number(b" kept ", kept);
+    say_number(b" default ", kept);
     say_number(b" survivors ", survivors);
     say_number(b" left ", left as u64);
     say(b"\n");

@@ -1,6 +1,7 @@
 // The five messages of Neighbor Discovery (RFC 4861, sections 4.1 to 4.5), as a sender makes them with this library: options, fixed part, packet,
 // record. Each is taken as a receiver would take it before its record goes to standard output: head, fixed part and link-layer address must be those
-// that were sent. `tests/five_messages.py` makes the bytes that must come out, without the library. Two functions have a proof by hand, since the borrow
+// that were sent. A sender clears reserved bits, so `send` names the clearing call; beside it each message is passed on as a gateway would, by the
+// default. `tests/five_messages.py` makes the bytes that must come out, without the library. Two functions have a proof by hand, since the borrow
 // checker covers no record that is lent and no struct that holds a slice; each is no more than its call.
 ghost use mathlib.Core.Path.{_≡_};
 ghost use lib.ListN.{drop};
@@ -168,9 +169,9 @@ fn has_fixed_part(type_u8: u8, payload: &[u8]) -> bool {
     }
 }
 
-// Whether a packet is this header and the payload behind it.
-fn is_headed(header: Icmpv6Header, payload: &[u8], packet: &[u8]) -> bool {
-    if !wire::begins_with(packet, &header.to_bytes()) {
+// Whether a packet is the head that was written of a header, and the payload behind it.
+fn is_headed(header: Icmpv6Header, head: [u8; 8], payload: &[u8], packet: &[u8]) -> bool {
+    if !wire::begins_with(packet, &head) {
         return false;
     }
     check::same(part(packet, header.header_len(), packet.len()), payload)
@@ -205,23 +206,18 @@ fn is_answered(answer: Computed, header: Icmpv6Header) -> bool {
     }
 }
 
-// Whether a packet is what a header with another checksum, and with bits that the default does not write, is once its own is set.
+// Whether a packet is what a header with another checksum is once its own is set: by the default, as the default writes it.
 fn is_as_updated(
-    icmp_type: Icmpv6Type,
+    other: Icmpv6Header,
     source: &[u8; 16],
     destination: &[u8; 16],
     payload: &[u8],
     packet: &[u8],
 ) -> bool {
-    let other = Icmpv6Header {
-        icmp_type,
-        checksum: 1,
-        bytes5to8: 4294967295,
-    };
     let after = updated(other, payload, source, destination);
     let answer = after.answer;
     let header = after.header;
-    is_answered(answer, header) && is_headed(header, payload, packet)
+    is_answered(answer, header) && is_headed(header, header.to_bytes(), payload, packet)
 }
 
 // Whether a packet is what a header made for the payload says.
@@ -235,7 +231,8 @@ fn is_as_made(
     match to_header(icmp_type, payload, source, destination) {
         HeaderMade::Header(header) => {
             let answer = calc_checksum(icmp_type, payload, source, destination);
-            is_answered(answer, header) && is_headed(header, payload, packet)
+            is_answered(answer, header)
+                && is_headed(header, header.to_bytes_clearing(), payload, packet)
         }
         HeaderMade::Refused(_) => false,
     }
@@ -249,25 +246,63 @@ fn is_again(answer: Written, out: &[u8], packet: &[u8]) -> bool {
     }
 }
 
-// Whether a packet whose reserved bits are 0 comes again from its header and its payload, both ways: clearing also where the header kept others.
+// Whether a packet comes again from its header and its payload, by the default and by its other name.
 fn is_passed_on(source: &[u8; 16], destination: &[u8; 16], payload: &[u8], packet: &[u8]) -> bool {
     let HeaderRead::Header(read) = Icmpv6Header::from_slice(packet) else {
         return false;
     };
     let mut out = [0u8; 128];
-    let kept = write_packet_keeping(read, source, destination, payload, &mut out);
-    if !is_again(kept, &out, packet) {
+    let by_default = write_packet(read, source, destination, payload, &mut out);
+    let mut second = [0u8; 128];
+    let kept = write_packet_keeping(read, source, destination, payload, &mut second);
+    is_again(by_default, &out, packet) && is_again(kept, &second, packet)
+}
+
+// Whether the record that is read of a packet, sent through the clearing call, makes the packet that was made here.
+fn is_cleared(
+    read: HeaderRead,
+    source: &[u8; 16],
+    destination: &[u8; 16],
+    payload: &[u8],
+    made: &[u8],
+) -> bool {
+    let HeaderRead::Header(header) = read else {
         return false;
-    }
-    let icmp_type = read.icmp_type;
-    let other = Icmpv6Header {
+    };
+    let mut out = [0u8; 128];
+    let cleared = write_packet_clearing(header, source, destination, payload, &mut out);
+    is_again(cleared, &out, made)
+}
+
+// The same message with every reserved bit set: whether it is passed on as it is, and sent as one's own without them.
+fn is_told_apart(
+    icmp_type: Icmpv6Type,
+    source: &[u8; 16],
+    destination: &[u8; 16],
+    payload: &[u8],
+    made: &[u8],
+) -> bool {
+    let full = Icmpv6Header {
         icmp_type,
         checksum: 1,
         bytes5to8: 4294967295,
     };
-    let mut second = [0u8; 128];
-    let cleared = write_packet_clearing(other, source, destination, payload, &mut second);
-    is_again(cleared, &second, packet)
+    let mut out = [0u8; 128];
+    match write_packet(full, source, destination, payload, &mut out) {
+        Written::To(n) => {
+            let packet = part(&out, 0, n);
+            is_as_updated(full, source, destination, payload, packet)
+                && is_passed_on(source, destination, payload, packet)
+                && is_cleared(
+                    Icmpv6Header::from_slice(packet),
+                    source,
+                    destination,
+                    payload,
+                    made,
+                )
+        }
+        Written::Refused(_) => false,
+    }
 }
 
 fn put_record(source: &[u8; 16], destination: &[u8; 16], packet: &[u8]) {
@@ -281,17 +316,20 @@ fn put_record(source: &[u8; 16], destination: &[u8; 16], packet: &[u8]) {
 fn send(icmp_type: Icmpv6Type, source: &[u8; 16], destination: &[u8; 16], payload: &[u8]) {
     let mut packet = [0u8; 128];
     let header = Icmpv6Header::new(icmp_type);
-    match write_packet(header, source, destination, payload, &mut packet) {
+    match write_packet_clearing(header, source, destination, payload, &mut packet) {
         Written::To(n) => {
             let sent = part(&packet, 0, n);
             if !is_as_made(icmp_type, source, destination, payload, sent) {
                 say(b"another head\n");
             }
-            if !is_as_updated(icmp_type, source, destination, payload, sent) {
+            if !is_as_updated(header, source, destination, payload, sent) {
                 say(b"another checksum\n");
             }
             if !is_passed_on(source, destination, payload, sent) {
                 say(b"not passed on\n");
+            }
+            if !is_told_apart(icmp_type, source, destination, payload, sent) {
+                say(b"reserved bits\n");
             }
             if !has_fixed_part(icmp_type.type_u8(), payload) {
                 say(b"no fixed part\n");

@@ -7,14 +7,16 @@ use mathlib.Core.Path.{_≡_, refl, sym, ap, _∙_}
 use mathlib.Core.List.{List, [], _∷_, _++_}
 use native.Mathlib.Omega.{arith}
 use lib.Dec.{ltb}
+use borrow.Author.Tests.{lt-ltb}
 use lib.ListN.{getD, drop}
 use Rattle.paper.specs.Paper.{Paper}
 use Rattle.wire.specs.Wire.{bytes16, bytes32}
 use Rattle.wire.specs.Bits.{bit}
 use Rattle.icmpv6_type.specs.declared.Icmpv6Type.{Icmpv6Type}
-use Rattle.icmpv6_type.specs.Value.{typeTold, typeNumber, codeNumber, fieldBytes}
+use Rattle.icmpv6_type.specs.Value.{typeTold, kindNumber, typeNumber, codeNumber, fieldBytes}
 use Rattle.icmpv6_type.specs.Reserved.{Fits, misnamed, reservedIn, keptBits, keeping}
-use Rattle.icmpv6_type.proofs.Kept.{keeping-bits, keeping-kept}
+use Rattle.icmpv6_type.proofs.RoundTrip.{cleared-bits}
+use Rattle.icmpv6_type.proofs.Kept.{fields-cleared, keeping-bits, keeping-kept, keeping-none}
 use Rattle.icmpv6_type.proofs.Paper.{type-lossless}
 use Rattle.icmpv6.specs.declared.icmpv6_header.Icmpv6Header.{Icmpv6Header}
 use Rattle.icmpv6.specs.Head.{Way, Clearing, Keeping, keptBy, decodeOf, encodeBy, headerTold, keptIn, SameHead}
@@ -25,6 +27,14 @@ pub written-bits : (w : Way) (h : Icmpv6Header) (i j : ℕ) → i < 4 →
     bit (getD (drop 4 (encodeBy w h)) i 0) j
     ≡ cond (ltb j (getD (reservedIn (h .«icmp_type»)) i 0)) (bit (getD (bytes32 (keptBy w (h .bytes5to8))) i 0) j) (bit (getD (fieldBytes (h .«icmp_type»)) i 0) j)
 written-bits w h i j n = keeping-bits (h .«icmp_type») (bytes32 (keptBy w (h .bytes5to8))) i j n
+
+-- so clearing writes no reserved bit as 1, whatever the header kept (RFC 4861, section 4: a sender's duty)
+pub none-written : (h : Icmpv6Header) (i j : ℕ) → i < 4 → j < getD (reservedIn (h .«icmp_type»)) i 0 → bit (getD (drop 4 (encodeBy Clearing h)) i 0) j ≡ 0
+none-written h i j n r =
+    let t = h .«icmp_type» in
+    ap (λ (l : List ℕ). bit (getD l i 0) j) (keeping-none t ∙ sym (fields-cleared t))
+    ∙ cleared-bits (kindNumber t) (codeNumber t) (fieldBytes t) i j n
+    ∙ rw (lt-ltb j (getD (reservedIn t) i 0) r)
 
 -- a head by its value, its checksum and the reserved bits that are written
 abbrev ofKept : Icmpv6Type → ℕ → List ℕ → List ℕ

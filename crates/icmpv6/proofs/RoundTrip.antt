@@ -19,7 +19,7 @@ use Rattle.icmpv6_type.proofs.RoundTrip as value
 use Rattle.icmpv6_type.proofs.Kept.{keeping-none, keeping-kept, keeping-below, read-write-keeping, write-read-keeping}
 use Rattle.icmpv6_type.proofs.Paper.{type-lossless}
 use Rattle.icmpv6.specs.declared.icmpv6_header.Icmpv6Header.{Icmpv6Header}
-use Rattle.icmpv6.specs.Head.{Way, Clearing, Keeping, keptBy, decodeOf, encodeBy, headerTold, fieldsAt, wordAt, checksumAt, clearedHead, SameHead}
+use Rattle.icmpv6.specs.Head.{Way, Clearing, Keeping, byDefault, keptBy, decodeOf, encodeBy, headerTold, fieldsAt, wordAt, checksumAt, clearedHead, SameHead}
 
 -- the first eight bytes of a packet that has them, one by one
 pub first-eight : (p : List ℕ) → 8 ≤ length p → take 8 p ≡ getD p 0 0 ∷ getD p 1 0 ∷ getD p 2 0 ∷ getD p 3 0 ∷ fieldsAt p
@@ -65,6 +65,10 @@ module _ (p : List ℕ) (low : 8 ≤ length p) (high : length p ≤ limit) where
         let kept = read-write-keeping (getD p 4 0) (getD p 5 0) (getD p 6 0) (getD p 7 0) (bytes 4) (bytes 5) (bytes 6) (bytes 7) (getD p 0 0) (getD p 1 0) t value-is in
         ap (λ (l : List ℕ). typeNumber t ∷ codeNumber t ∷ (bytes16 (h .checksum) ++ l)) (ap (keeping t) word-is ∙ kept)
         ∙ rw (first-eight p low, written .0, written .1, sum-is, high16 (getD p 2 0) (getD p 3 0) (bytes 2) (bytes 3), low16 (getD p 2 0) (getD p 3 0) (bytes 2) (bytes 3))
+
+    -- and so does the default: who names no way passes on what came in
+    pub read-write-default : encodeBy byDefault h ≡ take 8 p
+    read-write-default = read-write-whole
 
 module _ (w : Way) (h : Icmpv6Header) (payload : List ℕ) where
   abbrev t : Icmpv6Type

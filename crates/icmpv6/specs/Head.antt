@@ -53,7 +53,7 @@ pub data Way : Type 0 where
 
 -- the way of every call that names none
 abbrev pub byDefault : Way
-byDefault = Clearing
+byDefault = Keeping
 
 abbrev pub keptBy : Way → ℕ → ℕ
 keptBy Clearing word = 0

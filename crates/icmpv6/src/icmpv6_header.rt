@@ -80,7 +80,7 @@ impl Icmpv6Header {
         ]
     }
 
-    // The eight bytes of the header with 0 in every reserved bit, as the crate writes them.
+    // The eight bytes of the header with 0 in every reserved bit, as the crate writes them and as RFC 4861 asks of a sender.
     pub fn to_bytes_clearing(self) -> [u8; 8]
         ensures { λ r. ⌜ r ≡ encodeBy Clearing self ⌝ }
     {
@@ -94,10 +94,10 @@ impl Icmpv6Header {
         self.with_kept(self.bytes5to8)
     }
 
-    // The eight bytes of the header by the default, which clears.
+    // The eight bytes of the header by the default, which keeps: of a header that was read, the bytes that came in.
     pub fn to_bytes(self) -> [u8; 8]
         ensures { λ r. ⌜ r ≡ encodeBy byDefault self ⌝ }
     {
-        self.to_bytes_clearing()
+        self.to_bytes_keeping()
     }
 }

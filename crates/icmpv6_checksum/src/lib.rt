@@ -14,7 +14,7 @@ pub enum HeaderMade {
     Refused(Refusal),
 }
 
-// The checksum of the packet made of a value and a payload.
+// The checksum of the packet made of a value and a payload. A value has no kept bits: it is a sender's, who clears.
 pub fn calc_checksum(
     t: Icmpv6Type,
     payload: &[u8],
@@ -24,7 +24,7 @@ pub fn calc_checksum(
     ensures { λ r. ⌜ computed r ≡ calcOf (now (source .entry)) (now (destination .entry)) t (now (payload .entry)) ⌝ }
 {
     let header = Icmpv6Header::new(t);
-    checksum::checksum_of(header.to_bytes(), payload, source, destination)
+    checksum::checksum_of(header.to_bytes_clearing(), payload, source, destination)
 }
 
 // The header with the computed checksum, or unchanged if the answer refuses.

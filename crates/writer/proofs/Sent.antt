@@ -2,22 +2,24 @@
 -- its checksum is that of the very bytes that stand in the output; and no reserved bit is among them where it clears. In the output it stands at the
 -- start, and all else is as it was. The premises say that the numbers of the value fit their fields and bytes are below 256, as their types have it.
 -- Assumes nothing.
-use Prim.Native.Nat.{ℕ, _+_, _<_, _≤_}
+use Prim.Native.Nat.{ℕ, zero, suc, _+_, _<_, _≤_}
 use native.Mathlib.Omega.{arith}
 use mathlib.Core.Bool.{false}
 use mathlib.Core.Path.{_≡_, refl, sym, ap, _∙_}
 use mathlib.Core.List.{List, [], _∷_, _++_}
 use lib.Dec.{lit<}
-use lib.ListN.{length, drop, length-append}
+use lib.ListN.{length, getD, drop, length-append}
 use lib.Seq.{drop-at, drop-append-seam, take-append-seam}
 use Rattle.paper.specs.Paper.{gives, value}
 use Rattle.wire.specs.Wire.{bytes32}
+use Rattle.wire.specs.Bits.{bit}
 use Rattle.icmpv6_type.specs.declared.Icmpv6Type.{Icmpv6Type}
 use Rattle.icmpv6_type.specs.Value.{typeTold, wordOf}
-use Rattle.icmpv6_type.specs.Reserved.{Fits, misnamed, keeping}
+use Rattle.icmpv6_type.specs.Reserved.{Fits, misnamed, reservedIn, keeping}
 use Rattle.icmpv6.specs.declared.icmpv6_header.Icmpv6Header.{Icmpv6Header}
 use Rattle.icmpv6.specs.Head.{Way, Clearing, keptBy, decodeOf, encodeBy, headerTold, checksumAt, clearedHead, SameHead}
 use Rattle.icmpv6.proofs.RoundTrip.{read-write, write-read, write-read-same}
+use Rattle.icmpv6.proofs.Alike.{none-written}
 use Rattle.checksum.specs.Running.{Bytes}
 use Rattle.checksum.specs.Icmpv6.{checksumOf, verdictOf, valid}
 use Rattle.checksum.proofs.Sums.{below-append, below-at}
@@ -85,6 +87,15 @@ module _ (w : Way) (source destination : List ℕ) (h : Icmpv6Header) (payload :
       module _ (hs : Bytes source) (hd : Bytes destination) where
         pub validates : verdictOf source destination packet ≡ valid
         validates = header.written-validates w source destination h payload hs hd hp (omega arith) fits
+
+-- clearing, no reserved bit of the packet is 1, whatever the header kept
+pub none-sent : (source destination : List ℕ) (h : Icmpv6Header) (payload : List ℕ) (i j : ℕ) → i < 4 → j < getD (reservedIn (h .«icmp_type»)) i 0
+    → bit (getD (drop 4 (packetBy Clearing source destination h payload)) i 0) j ≡ 0
+none-sent source destination h payload zero j n r = none-written (withSum Clearing source destination h payload) 0 j n r
+none-sent source destination h payload (suc zero) j n r = none-written (withSum Clearing source destination h payload) 1 j n r
+none-sent source destination h payload (suc (suc zero)) j n r = none-written (withSum Clearing source destination h payload) 2 j n r
+none-sent source destination h payload (suc (suc (suc zero))) j n r = none-written (withSum Clearing source destination h payload) 3 j n r
+none-sent source destination h payload (suc (suc (suc (suc i)))) j n r = absurd (omega arith)
 
 -- what the writer leaves in the output, by its answer
 module _ (w : Way) (source destination : List ℕ) (h : Icmpv6Header) (payload out left : List ℕ) (lent : left ≡ outputBy w h source destination payload out) where

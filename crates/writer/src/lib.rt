@@ -1,4 +1,4 @@
-// The packet writer (docs/RULES.md T1 to T5, T9): a header record, both addresses and a payload, into a lent buffer.
+// The packet writer (docs/RULES.md T1 to T5, T9, T10): a header record, both addresses and a payload, into a lent buffer.
 ghost use mathlib.Core.Path.{_≡_};
 ghost use Rattle.icmpv6_type.specs.Reserved.{misnamed};
 ghost use Rattle.icmpv6.specs.Head.{Clearing, Keeping, byDefault};
@@ -125,7 +125,7 @@ pub fn write_packet_clearing(
     write_kept(nothing_kept, source, destination, payload, out)
 }
 
-// The same with the reserved bits that the header kept: for a packet that is passed on.
+// The same with the reserved bits that the header kept.
 pub fn write_packet_keeping(
     header: Icmpv6Header,
     source: &[u8; 16],
@@ -139,7 +139,7 @@ pub fn write_packet_keeping(
     write_kept(header, source, destination, payload, out)
 }
 
-// The same by the default, which clears.
+// The same by the default, which keeps: a packet that was read and is passed on comes out as it came in, but for its checksum.
 pub fn write_packet(
     header: Icmpv6Header,
     source: &[u8; 16],
@@ -150,5 +150,5 @@ pub fn write_packet(
     ensures answers { λ r. ⌜ writtenTold r ≡ writeOf (header .«icmp_type») (now (payload .entry)) (now (out .entry)) ⌝ }
     ensures lent { λ r. ⌜ now (out .exit) ≡ outputBy byDefault header (now (source .entry)) (now (destination .entry)) (now (payload .entry)) (now (out .entry)) ⌝ }
 {
-    write_packet_clearing(header, source, destination, payload, out)
+    write_packet_keeping(header, source, destination, payload, out)
 }

@@ -9,8 +9,8 @@ use Rattle.icmpv6_checksum.proofs.calc_checksum.Tie as tie
 new-requires : tie.Need-new-requires
 new-requires c κs = search needs
 
-to-bytes-requires : tie.Need-to-bytes-requires
-to-bytes-requires c κs = search needs
+to-bytes-clearing-requires : tie.Need-to-bytes-clearing-requires
+to-bytes-clearing-requires c κs = search needs
 
 checksum-of-requires : tie.Need-checksum-of-requires
 checksum-of-requires c κs = search needs
@@ -18,9 +18,9 @@ checksum-of-requires c κs = search needs
 returns : tie.Need-returns
 returns c =
     let new = c .before .before .new in
-    rw (c .before .to-bytes .ensures, header-lossless (new .result) (madeOf (c .before .before .before .before .args .t)) (new .ensures))
+    rw (c .before .to-bytes-clearing .ensures, header-lossless (new .result) (madeOf (c .before .before .before .before .args .t)) (new .ensures))
     at (c .checksum-of .ensures)
 
 pub calc-checksum-spec : {M : Type 1} → statement M
 calc-checksum-spec =
-    tie.close (tie.spec new-requires to-bytes-requires checksum-of-requires returns)
+    tie.close (tie.spec new-requires to-bytes-clearing-requires checksum-of-requires returns)
