@@ -86,6 +86,7 @@ void fields(void);  /* where each field of a head stands */
 void cases(void);   /* the worked cases P1 to P13, every refusal, edges */
 void writes(void);  /* the packet writer */
 void forwards(void); /* packets that are passed on */
+void lengths(void); /* where a piece of the sum ends */
 void joined(void);  /* option lists cut at every place */
 void damaged(void); /* 100,000 packets, random and damaged, beside plain.c */
 void quotes(void);  /* packets quoted in packets: the worked cases of area Q, and 100,000 nests beside plain.c */

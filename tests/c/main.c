@@ -10,6 +10,7 @@ int main(void) {
     joined();
     damaged();
     quotes();
+    lengths();
     printf("%lu passed, %lu failed\n", passed, failed);
     return failed != 0 || passed == 0;
 }
