@@ -1,0 +1,17 @@
+-- `newer_kind` meets its contract: its tests are those of `newerKind`.
+-- Assumes nothing.
+use borrow.Author.Tests.{eq-eqb, ne-eqb}
+use Rattle.ndp_options.proofs.newer_kind.Statement.{statement}
+use Rattle.ndp_options.proofs.newer_kind.Tie as tie
+
+returns : tie.Need-returns
+returns c = simp (eq-eqb _ _ (c .if1 .taken))
+
+returns-2 : tie.Need-returns-2
+returns-2 c = simp (ne-eqb _ _ (c .before .if1 .left), eq-eqb _ _ (c .if2 .taken))
+
+returns-3 : tie.Need-returns-3
+returns-3 c = simp (ne-eqb _ _ (c .before .if1 .left), ne-eqb _ _ (c .if2 .left))
+
+pub newer-kind-spec : {M : Type 1} → statement M
+newer-kind-spec = tie.close (tie.spec returns returns-2 returns-3)
