@@ -84,6 +84,7 @@ extern "C" {
 #define BROTHLADDER_RECEIVED 9u /* receive: the packet passed every test */
 #define BROTHLADDER_WRITTEN 10u /* write: the packet is in `out` */
 #define BROTHLADDER_PREFIX 11u  /* prefix: a prefix information option */
+#define BROTHLADDER_SUM 17u     /* sum, sum_pseudo, sum_push, sum_join: a sum of bytes */
 
 /* Values of `refusal`, which says why a call refused; 0 if it did not. `value` has the numbers that go with it, 0 past the last. The
  * last number of 5 to 8 is the place of the refused option in the packet: `offset` + `at` of a step, `offset` of the prefix.
@@ -149,7 +150,8 @@ extern "C" {
 #define BROTHLADDER_FIELD_SOLICITED 1
 #define BROTHLADDER_FIELD_OVERRIDE 2
 
-/* Each struct begins with the same three fields. None has padding, so every byte is set. A field that an answer does not use is 0. */
+/* Each struct begins with the same three fields, but that of the sums, which no call refuses. None has padding, so every byte is set. A
+ * field that an answer does not use is 0. */
 
 struct brothladder_head {
     uint32_t answer; /* KNOWN, UNKNOWN or REFUSED */
@@ -206,6 +208,13 @@ struct brothladder_prefix {
     uint32_t preferred_lifetime;
     uint8_t prefix[16];
     size_t place; /* where the option begins in the packet: offset */
+};
+
+/* A sum of bytes, in one register. Pass it on as it is: `odd` belongs to `sum`. */
+struct brothladder_summed {
+    uint32_t answer; /* SUM */
+    uint16_t sum;    /* the folded sum (RFC 1071): not the checksum, which is 65535 - sum */
+    uint16_t odd;    /* 1 if an odd number of bytes is in it, else 0 */
 };
 
 /* Decodes the head of a packet. KNOWN: type, code, checksum field and the fields of the type; no field holds reserved bits. UNKNOWN: the
@@ -269,6 +278,35 @@ BROTHLADDER_ANSWER BROTHLADDER_ADDRESSES(6, 7)
 struct brothladder_written brothladder_write_keeping(uint8_t type, uint8_t code, uint32_t bytes5to8, const uint8_t *payload,
                                                      size_t payload_length, const uint8_t source[16], const uint8_t destination[16],
                                                      uint8_t *out, size_t out_length);
+
+/* Sums of bytes that lie in several buffers; docs/SUMS.md says what may be exchanged with what. To verify a packet that lies in two buffers,
+ * wherever it is cut:
+ *
+ *     struct brothladder_summed s = brothladder_sum_pseudo(source, destination, (uint32_t)(buffer[0].length + buffer[1].length));
+ *     for (int i = 0; i < 2; i++)
+ *         s = brothladder_sum_push(s, buffer[i].bytes, buffer[i].length);
+ *     return s.sum == 65535;                              // just where brothladder_verify of the whole packet is VALID
+ *
+ * A packet has 8 to 4294967295 bytes: test that yourself. brothladder_verify refuses another length (1, 2), a sum does not. To compute a
+ * checksum, walk over the same bytes with 0 in the checksum field, and write 65535 - s.sum into it, high byte first.
+ * A sum that you did not get from one of these calls counts as it stands, and any odd number in `odd` as 1; `answer` is not looked at.
+ * Refusals: none. */
+
+/* The sum of some bytes. */
+BROTHLADDER_ANSWER
+struct brothladder_summed brothladder_sum(const uint8_t *bytes, size_t length);
+
+/* The sum of the pseudo-header of a packet of `length` bytes (RFC 8200, section 8.1; next header 58). */
+BROTHLADDER_ANSWER BROTHLADDER_ADDRESSES(1, 2)
+struct brothladder_summed brothladder_sum_pseudo(const uint8_t source[16], const uint8_t destination[16], uint32_t length);
+
+/* The sum of the bytes that `before` is the sum of, and `bytes` behind them. */
+BROTHLADDER_ANSWER
+struct brothladder_summed brothladder_sum_push(struct brothladder_summed before, const uint8_t *bytes, size_t length);
+
+/* The sum of the bytes that `first` is the sum of, and those of `second` behind them: for buffers that were summed apart. */
+BROTHLADDER_ANSWER
+struct brothladder_summed brothladder_sum_join(struct brothladder_summed first, struct brothladder_summed second);
 
 /* Returns BROTHLADDER_VERSION. You need not call it: it is here to be referred to. `retain` keeps the reference where the linker drops
  * what nobody uses. */

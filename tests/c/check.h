@@ -73,6 +73,8 @@ size_t damage(uint8_t *p, size_t n);
 void fields(void);  /* where each field of a head stands */
 void cases(void);   /* the worked cases P1 to P13, every refusal, edges */
 void writes(void);  /* the packet writer */
+void lengths(void); /* where a piece of the sum ends */
+void sums(void);    /* sums of several parts */
 void joined(void);  /* option lists cut at every place */
 void damaged(void); /* 100,000 packets, random and damaged, beside plain.c */
 #endif

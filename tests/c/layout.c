@@ -48,6 +48,11 @@ AT(prefix, prefix, 64, 16);
 AT(prefix, place, 80, 8);
 ENDS(prefix, 88);
 
+AT(summed, answer, 0, 4);
+AT(summed, sum, 4, 2);
+AT(summed, odd, 6, 2);
+ENDS(summed, 8);
+
 /* of this head the field at `index` is `value`, and the others are 0 */
 static void alone(const char *bytes, size_t index, uint32_t value) {
     uint8_t b[8];

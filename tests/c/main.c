@@ -8,6 +8,8 @@ int main(void) {
     writes();
     joined();
     damaged();
+    lengths();
+    sums();
     printf("%lu passed, %lu failed\n", passed, failed);
     return failed != 0 || passed == 0;
 }

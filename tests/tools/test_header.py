@@ -9,7 +9,7 @@ import sys
 import tempfile
 
 root = os.path.dirname(os.path.dirname(os.path.dirname(os.path.abspath(__file__))))
-HEADER, PREFIX, DECODE, STEP, ANSWER, VERSION = "include/brothladder.h", *(f"crates/c_{c}/src/lib.rt" for c in ("prefix", "decode", "step", "answer", "version"))
+HEADER, PREFIX, DECODE, STEP, ANSWER, VERSION, SUMMED = "include/brothladder.h", *(f"crates/c_{c}/src/lib.rt" for c in ("prefix", "decode", "step", "answer", "version", "summed"))
 
 
 def copied(to):
@@ -78,6 +78,8 @@ MISTAKES = [
     ("a refusal with another number", {HEADER: instead("ZERO_LENGTH 6u", "ZERO_LENGTH 5u")}, ["header"]),
     ("the refusal of a far offset with another number", {HEADER: instead("FAR_OFFSET 22u", "FAR_OFFSET 15u")}, ["header"]),
     ("offset and place exchanged in a prototype", {HEADER: instead("size_t offset, size_t at);", "size_t at, size_t offset);")}, ["header"]),
+    ("the two sums of a join exchanged in its prototype", {HEADER: exchanged("struct brothladder_summed first", "struct brothladder_summed second")}, ["header"]),
+    ("a sum and its parity exchanged in source and header", {HEADER: exchanged("    uint16_t sum;", "    uint16_t odd;"), SUMMED: exchanged("pub sum: u16", "pub odd: u16")}, ["layout"]),
     ("an argument left out of a prototype", {HEADER: instead("*option, size_t length, size_t offset);", "*option, size_t length);")}, ["header"]),
     ("another version in the header", {HEADER: instead("VERSION 3u", "VERSION 4u")}, ["header"]),
     ("another version in the source", {VERSION: instead("VERSION: u32 = 3", "VERSION: u32 = 4")}, ["header"]),

@@ -22,3 +22,5 @@ pub const RECEIVED: u32 = 9;
 pub const WRITTEN: u32 = 10;
 
 pub const PREFIX: u32 = 11;
+
+pub const SUM: u32 = 17;

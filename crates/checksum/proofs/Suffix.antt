@@ -7,11 +7,7 @@ use native.Mathlib.Numerals.{add-one}
 use native.Mathlib.Omega.{arith}
 use lib.ListN.{length, getD, take, drop, drop-of-length-le, length-drop, take-append-drop}
 use lib.Seq.{drop-cons, drop-drop, length-take-le}
-use Rattle.checksum.specs.Running.{lowFirst}
-
--- what the running total has yet to take in at i
-abbrev pub rest : List ℕ → ℕ → ℕ
-rest s i = lowFirst (drop i s)
+use Rattle.checksum.specs.Running.{lowFirst, rest}
 
 pub rest-two : (s : List ℕ) (i : ℕ) → i + 1 < length s → rest s i ≡ getD s i 0 + 256 * getD s (i + 1) 0 + rest s (i + 2)
 rest-two s i h =

@@ -4,6 +4,7 @@ ghost use Prim.Native.Nat.{_+_, _*_, _<_, _≤_};
 ghost use lib.ListN.{length};
 ghost use Rattle.checksum.specs.Ones.{words, onesSum};
 ghost use Rattle.checksum.specs.Running.{lowFirst, folded, swapped, Part, Pseudo};
+ghost use Rattle.checksum.specs.Narrow.{pieceBytes};
 ghost use Rattle.checksum.specs.Icmpv6.{computedOf, verdictOf};
 ghost use Rattle.checksum.specs.Fields.{isValid};
 ghost use Rattle.checksum.specs.Told.{computed, verdict};
@@ -53,7 +54,7 @@ fn pair(first: u8, second: u8) -> u32
 
 // A folded sum with the words of a piece added, in memory order: RFC 1071, section 2 (B), lets the bytes be exchanged at the end.
 fn add_piece(from: u16, s: &[u8]) -> u32
-    requires { ⌜ length (now s) ≤ 65536 ⌝ }
+    requires { ⌜ length (now s) ≤ pieceBytes ⌝ }
     ensures { λ r. ⌜ r ≡ from + lowFirst (now (s .entry)) ⌝ }
 {
     let mut t = from as u32;

@@ -1,6 +1,8 @@
--- `add_piece` meets its contract: the total with what is left added stays the whole, and grows by at most 32,768 a byte.
+-- `add_piece` meets its contract: the total with what is left added stays the whole, and grows by at most 65,535 a word.
 -- Assumes nothing.
-use Rattle.checksum.proofs.Suffix.{rest, rest-two, rest-one, rest-none}
+use Rattle.checksum.proofs.Suffix.{rest-two, rest-one, rest-none}
+use Rattle.checksum.proofs.Narrow.{next-fits}
+use Rattle.checksum.specs.Running.{rest, PieceTurn}
 use lib.ListN.{length, getD}
 use borrow.Author.Needs.{needs}
 use native.Mathlib.Omega.{arith}
@@ -10,7 +12,7 @@ use Rattle.checksum.proofs.add_piece.Statement.{statement}
 use Rattle.checksum.proofs.add_piece.Tie as tie
 
 abbrev Inv-loop : tie.InvT-loop
-Inv-loop from s t₀ i₀ t i = (i ≤ length s) × (t + rest s i ≡ from + rest s 0) × (t ≤ from + 32768 * i)
+Inv-loop from s t₀ i₀ t i = PieceTurn from s t i
 
 abbrev μ-loop : tie.MeasureT-loop
 μ-loop from s t₀ i₀ t i = length s - i
@@ -34,7 +36,9 @@ pair-requires : tie.Need-pair-requires Inv-loop μ-loop
 pair-requires c κs = search needs
 
 add-t : tie.Need-add-t Inv-loop μ-loop
-add-t c = omega arith
+add-t c =
+    let at = c .before .before .before .before in
+    omega (arith, next-fits (at .loop .t) (at .loop .i) (c .pair .result) (omega arith) (at .loop .inv .3) (c .pair .ensures .1))
 
 add-i : tie.Need-add-i Inv-loop μ-loop
 add-i c = omega arith
@@ -52,7 +56,9 @@ pair-requires-2 : tie.Need-pair-requires-2 Inv-loop μ-loop
 pair-requires-2 c κs = search needs
 
 add-t-2 : tie.Need-add-t-2 Inv-loop μ-loop
-add-t-2 c = omega arith
+add-t-2 c =
+    let at = c .before .before .before .before in
+    omega (arith, next-fits (at .loop .t) (at .loop .i) (c .pair2 .result) (omega arith) (at .loop .inv .3) (c .pair2 .ensures .1))
 
 returns : tie.Need-returns Inv-loop μ-loop
 returns c =

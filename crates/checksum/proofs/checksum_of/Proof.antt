@@ -2,6 +2,7 @@
 -- Assumes nothing.
 use Rattle.checksum.proofs.Packets.{sum-of-totals, folds-joined, withField-append}
 use Rattle.checksum.proofs.Sums.{below-append}
+use Rattle.checksum.proofs.Narrow.{received-fits, sent-fits}
 use Rattle.checksum.specs.Running.{folded}
 use Rattle.checksum.specs.Icmpv6.{withField, checksumOf, computedOf}
 use borrow.Author.Tests.{lt-ltb, le-ltb}
@@ -40,13 +41,13 @@ part-requires : tie.Need-part-requires
 part-requires c κs = search needs
 
 add-fold : tie.Need-add-fold
-add-fold c = search needs
+add-fold c = omega (arith, received-fits (c .before .before .pseudo-total .ensures) (c .part .ensures))
 
 part-requires-2 : tie.Need-part-requires-2
 part-requires-2 c κs = search needs
 
 add-fold-2 : tie.Need-add-fold-2
-add-fold-2 c = search needs
+add-fold-2 c = omega (arith, sent-fits (c .before .before .before .pseudo-total .ensures) (c .before .part .ensures) (c .part2 .ensures))
 
 fold-requires : tie.Need-fold-requires
 fold-requires c κs = search needs

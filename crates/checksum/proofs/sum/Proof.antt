@@ -3,8 +3,9 @@
 use Rattle.paper.proofs.Rest.{rest-is}
 use Rattle.checksum.proofs.Sums.{below-of, running-total}
 use Rattle.checksum.proofs.Folding.{folded-bound, folded-add}
-use Rattle.checksum.proofs.Suffix.{rest, rest-part}
-use Rattle.checksum.specs.Running.{lowFirst, folded, swapped}
+use Rattle.checksum.proofs.Suffix.{rest-part}
+use Rattle.checksum.specs.Running.{lowFirst, rest, folded, swapped, SumTurn}
+use Rattle.checksum.specs.Narrow.{pieceBytes}
 use lib.ListN.{length, length-take, length-drop}
 use borrow.Author.Needs.{needs}
 use native.Mathlib.Omega.{arith}
@@ -14,7 +15,7 @@ use Rattle.checksum.proofs.sum.Statement.{statement}
 use Rattle.checksum.proofs.sum.Tie as tie
 
 abbrev Inv-loop : tie.InvT-loop
-Inv-loop bytes t₀ i₀ t i = (i ≤ length bytes) × (t < 65536) × (folded (t + rest bytes i) ≡ folded (rest bytes 0))
+Inv-loop bytes t₀ i₀ t i = SumTurn bytes t i
 
 abbrev μ-loop : tie.MeasureT-loop
 μ-loop bytes t₀ i₀ t i = length bytes - i
@@ -56,9 +57,9 @@ loop-again c =
     let i = at .loop .i in (
       omega arith,
       omega (arith, c .fold .ensures, folded-bound (c .before .add-piece .result)),
-      ap (λ k. folded (k + rest s (i + 65536))) (c .fold .ensures)
-          ∙ folded-add (c .before .add-piece .result) (rest s (i + 65536))
-          ∙ ap folded (omega (arith, c .before .add-piece .ensures, rest-part s i (i + 65536) (omega arith) (omega arith) (omega arith)))
+      ap (λ k. folded (k + rest s (i + pieceBytes))) (c .fold .ensures)
+          ∙ folded-add (c .before .add-piece .result) (rest s (i + pieceBytes))
+          ∙ ap folded (omega (arith, c .before .add-piece .ensures, rest-part s i (i + pieceBytes) (omega arith) (omega arith) (omega arith)))
           ∙ at .loop .inv .2,
     )
 

@@ -8,6 +8,7 @@ use Rattle.packet_length.specs.Length.{lengthTold}
 use Rattle.packet_length.proofs.Laws.{Between, passed, sized-fits, refused}
 use Rattle.checksum.specs.Icmpv6.{sumOf, verdictOf}
 use Rattle.checksum.proofs.Packets.{sum-of-totals}
+use Rattle.checksum.proofs.Narrow.{received-fits}
 use borrow.Author.Needs.{needs}
 use Rattle.checksum.proofs.verify.Statement.{statement}
 use Rattle.checksum.proofs.verify.Tie as tie
@@ -35,7 +36,7 @@ part-requires : tie.Need-part-requires
 part-requires c κs = search needs
 
 add-fold : tie.Need-add-fold
-add-fold c = search needs
+add-fold c = omega (arith, received-fits (c .before .pseudo-total .ensures) (c .part .ensures))
 
 fold-requires : tie.Need-fold-requires
 fold-requires c κs = search needs
