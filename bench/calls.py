@@ -7,8 +7,9 @@ import re
 import sys
 from functools import lru_cache
 
-CALLS = ["decode", "verify", "receive", "step", "read_prefix", "write", "write_clearing", "write_keeping", "chain", "version_4"]
-AIM_CODE, AIM_STACK = 16 * 1024, {c: 1536 if c == "chain" else 512 for c in CALLS}
+CALLS = ["decode", "verify", "receive", "step", "read_prefix", "read_route", "read_dns", "preference", "write", "write_clearing", "write_keeping", "chain",
+         "version_5"]
+AIM_CODE, AIM_STACK = 16 * 1024, {c: 2048 if c == "chain" else 512 for c in CALLS}
 # the functions that come back to themselves, and how often each is entered at most: a packet and eight levels have nine messages, and the ninth quote is
 # refused (docs/RULES.md Q11)
 CYCLE = {"quotes::message": 9, "quotes::quote": 9}
@@ -21,23 +22,27 @@ for line in open("counts.txt"):
     who, length, insns, _, _ = map(int, line.split())
     if who in names:
         counts[names[who] + (length,)] = insns
-small, large, longest = sorted({k[2] for k in counts if k[1] != "chain"})
-sets = [s for s in dict.fromkeys(k[0] for k in names.values()) if s != "nothing"]
+small, large, longest = sorted({k[3] for k in counts if k[2] != "chain"})
+sets = [s for s in dict.fromkeys(k[1] for k in names.values()) if s != "nothing"]
 
 
-def cost(who, call, length):
-    # the two instructions of the empty call are its own; the loop of a walk is the caller's, and is counted
-    return counts[who, call, length] - counts["nothing", call, length] + (0 if call == "walk" else 2)
+def cost(edition, who, call, length):
+    # a call that does not walk is measured once; the two instructions of the empty call are its own; the loop of a walk is the caller's, and is counted
+    if (edition, who, call, length) not in counts:
+        return ""
+    return f'{counts[edition, who, call, length] - counts[edition, "nothing", call, length] + (0 if call == "walk" else 2):,}'
 
 
 def title(call, length):
-    return call if call in ("decode", "prefix") else f"{call}, {CHAINS[length]}" if call == "chain" else f"{call}, {length:,}"
+    return call if call in ("decode", "prefix", "route", "servers", "preference") else f"{call}, {CHAINS[length]}" if call == "chain" else f"{call}, {length:,}"
 
 
 columns = [("decode", small), ("receive check", small), ("receive check", large), ("walk", small), ("walk", large), ("prefix", small)]
-columns += [(way, n) for way in ("write", "write clearing", "write keeping") for n in (small, large, longest)] + [("chain", n) for n in CHAINS]
+columns += [(call, large) for call in ("route", "servers", "preference")]
+columns += [(way, n) for way in ("write", "write clearing", "write keeping") for n in (small, large, longest)]
+columns += [("chain", n) for n in CHAINS]
 rows = ["| | " + " | ".join(title(c, n) for c, n in columns) + " |", "|---|" + "---|" * len(columns)]
-rows += [f"| {who} | " + " | ".join(f"{cost(who, c, n):,}" for c, n in columns) + " |" for who in sets]
+rows += [f"| {who}{', second edition' if edition == '2' else ''} | " + " | ".join(cost(edition, who, c, n) for c, n in columns) + " |" for edition in "12" for who in sets]
 
 # ---- code
 code, section = {}, None

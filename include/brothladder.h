@@ -1,22 +1,23 @@
 /* brothladder.h: reads, checks and writes ICMPv6 and Neighbor Discovery packets. docs/RULES.md has every rule, area X these calls.
  *
- * Each call takes numbers and byte buffers and returns one struct by value (brothladder_version_4 takes nothing and returns a number).
+ * Each call takes numbers and byte buffers and returns one struct by value (brothladder_version_5 takes nothing and returns a number).
  * You may pass any bytes of any length. A call allocates nothing, keeps nothing from one call to the next, and uses no C library.
  *
  * The first field of each struct, `answer`, says what was found. `answer` is never 0: compare it with the constants below, do not
  * test it as a boolean; a zeroed struct is not a valid answer. Only BROTHLADDER_END says that a list of options was read to its end.
  * After BROTHLADDER_REFUSED or BROTHLADDER_STOPPED the options that you got are only a part of the list.
  *
- * To use a message that came in, do the receive check first, then walk its options until END:
+ * To use a message that came in, do the receive check first, then walk its options until END, both in the same edition:
  *
- *     struct brothladder_received r = brothladder_receive(packet, length, hop_limit, source, destination);
+ *     const uint32_t edition = BROTHLADDER_EDITION_SECOND;    // named once, for receive and step alike
+ *     struct brothladder_received r = brothladder_receive(packet, length, hop_limit, source, destination, edition);
  *     if (r.answer != BROTHLADDER_RECEIVED)
  *         return drop(r.refusal, r.value[0]);
  *
  *     const uint8_t *options = packet + r.options_at;
  *     size_t at = 0;
  *     for (;;) {
- *         struct brothladder_stepped s = brothladder_step(options, r.options_length, r.options_at, at);
+ *         struct brothladder_stepped s = brothladder_step(options, r.options_length, r.options_at, at, edition);
  *         switch (s.answer) {
  *         case BROTHLADDER_OPTION:
  *             note(s.kind, options + s.at, s.length);     // note it: act only at END
@@ -33,20 +34,28 @@
  * the packet, as a trace does. Only you know where in the packet your bytes begin: pass it as `offset`, or 0 to count from your own
  * first byte.
  *
- * Versions: this is version 4. No struct and no argument is another than in version 3, but brothladder_write means something else: it
- * cleared the reserved bits of `bytes5to8`, and now it writes them. Whoever left anything in them and relied on the call to clear it
- * now sends it, and calls brothladder_write_clearing instead. Version 3 brought `bytes5to8` and wider fields of the head, version 2 the
- * offset and the place; version 1 is the header without BROTHLADDER_VERSION. Under GCC and clang each object that includes this header
- * refers to the call brothladder_version_4, so an object that was compiled with the header of another version does not link with this
- * library, nor one of this version with another library. Objects of version 1 have no such reference: they would link, and go wrong. So
- * compile all of them anew once. Each later change of a struct, an argument or a meaning takes the next number. A call that is added
- * takes none: whoever makes it does not link with a library that lacks it.
+ * Editions: every call that walks options takes, as its last argument, the edition of the rules that they are walked by. The first knows
+ * the options of RFC 4861 and hands out all others as unknown, of any length. The second also knows routes (type 24, RFC 4191) and DNS
+ * servers (type 25, RFC 8106), and refuses malformed ones as it does a malformed prefix. Whatever the second reads to END, the first
+ * does too, option by option at the same places; not the other way round. So name the edition once, and pass it to all calls over a
+ * packet: one that was received in the first edition may be refused in the midst of a walk in the second; one that was received in the
+ * second and is walked in the first has its routes and servers handed out as unknown; and the END of steps made now in one edition and
+ * now in the other says nothing about the second. A call without this argument does not walk.
+ *
+ * Versions: this is version 5. The calls that walk take the edition: to go on as before, pass BROTHLADDER_EDITION_FIRST. Version 4 gave
+ * brothladder_write another meaning: it had cleared the reserved bits of `bytes5to8`, and now it writes them; whoever relied on it to
+ * clear them calls brothladder_write_clearing instead. Version 3 brought `bytes5to8` and wider fields of the head, version 2 the offset
+ * and the place; version 1 is the header without BROTHLADDER_VERSION. Under GCC and clang each object that includes this header refers
+ * to the call brothladder_version_5, so an object that was compiled with the header of another version does not link with this library,
+ * nor one of this version with another library. Objects of version 1 have no such reference: they would link, and go wrong. So compile
+ * all of them anew once. Each later change of a struct, an argument or a meaning takes the next number. A call that is added takes none:
+ * whoever makes it does not link with a library that lacks it.
  *
  * What you must ensure: each pointer can be read (`out`: written) for the length that goes with it, and an address for 16 bytes. A
  * pointer may be NULL only if its length is 0. Nobody else writes to a buffer during the call. `out` does not overlap another
  * buffer of the same call.
  *
- * What a call uses: less than 512 bytes of stack (brothladder_chain: less than 1,536), the xmm registers, and the red zone below the
+ * What a call uses: less than 512 bytes of stack (brothladder_chain: less than 2,048), the xmm registers, and the red zone below the
  * stack pointer (x86-64 System V ABI). If your kernel runs without SSE or a red zone, call these functions only where both are
  * available (on Linux between kernel_fpu_begin and kernel_fpu_end).
  *
@@ -72,8 +81,12 @@ extern "C" {
 #define BROTHLADDER_ADDRESSES(a, b)
 #endif
 
-/* The version of this header: see the top of the file, and brothladder_version_4 at its end. */
-#define BROTHLADDER_VERSION 4u
+/* The version of this header: see the top of the file, and brothladder_version_5 at its end. */
+#define BROTHLADDER_VERSION 5u
+
+/* The editions of the option walk. 2 is the second, and every other number the first. */
+#define BROTHLADDER_EDITION_FIRST 1u
+#define BROTHLADDER_EDITION_SECOND 2u
 
 /* Values of `answer`. They all differ, over all calls, and none is 0. */
 #define BROTHLADDER_REFUSED 1u  /* any call: the input was bad; `refusal` and `value` say why */
@@ -88,10 +101,14 @@ extern "C" {
 #define BROTHLADDER_WRITTEN 10u /* write: the packet is in `out` */
 #define BROTHLADDER_PREFIX 11u  /* prefix: a prefix information option */
 #define BROTHLADDER_CHAIN 12u   /* chain: all the quotes of the packet */
+#define BROTHLADDER_ROUTE 13u   /* route: a route information option */
+#define BROTHLADDER_IGNORED 14u /* route: one with the reserved preference, which nobody may use */
+#define BROTHLADDER_SERVERS 15u /* dns: a recursive DNS server option */
+#define BROTHLADDER_PREFERENCE 16u /* preference: how far the router is preferred */
 
 /* Values of `refusal`, which says why a call refused; 0 if it did not. `value` has the numbers that go with it, 0 past the last. The
- * last number of 5 to 8 is the place of the refused option in the packet: `offset` + `at` of a step, `offset` of the prefix; of the
- * chain it counts from the packet's first byte, as the place of a quote does.
+ * last number of 5 to 8 and the one of 18 is the place of the refused option in the packet: `offset` + `at` of a step, `offset` of the
+ * prefix, the route and the servers; of the chain it counts from the packet's first byte, as the place of a quote does.
  *                                                       value[0]       value[1]       value[2]        value[3]      value[4] */
 #define BROTHLADDER_REFUSAL_SHORT_PACKET 1u           /* 8              length                                                */
 #define BROTHLADDER_REFUSAL_LONG_PACKET 2u            /* 4294967295     length                                                */
@@ -110,6 +127,7 @@ extern "C" {
 #define BROTHLADDER_REFUSAL_SHORT_QUOTE 15u           /* place          (15 to 17: the chain only) under 40 bytes             */
 #define BROTHLADDER_REFUSAL_QUOTE_VERSION 16u         /* place          not IP version 6                                      */
 #define BROTHLADDER_REFUSAL_DEEP_QUOTE 17u            /* place          a ninth quote                                         */
+#define BROTHLADDER_REFUSAL_LONG_ROUTE_PREFIX 18u     /* place          (second edition only) a prefix length above 128       */
 #define BROTHLADDER_REFUSAL_FAR_OFFSET 22u            /* (none) offset + length is above 4294967295: no packet is that long   */
 
 /* value[0] of refusal 11: the first test of the receive check, in this order, that the packet failed. */
@@ -142,6 +160,8 @@ extern "C" {
 #define BROTHLADDER_KIND_PREFIX_INFORMATION 3u /* 32 bytes */
 #define BROTHLADDER_KIND_REDIRECTED_HEADER 4u
 #define BROTHLADDER_KIND_MTU 5u                /* 8 bytes */
+#define BROTHLADDER_KIND_ROUTE_INFORMATION 24u /* second edition: 8, 16 or 24 bytes; with a reserved preference its kind is UNKNOWN */
+#define BROTHLADDER_KIND_RECURSIVE_DNS_SERVERS 25u /* second edition: 8 bytes, and 16 for each server, of which there is at least one */
 
 /* What `field` of a decoded head holds: the index of each number. A flag is 0 or 1. */
 #define BROTHLADDER_FIELD_BYTES 0      /* of an unknown head: bytes 4 to 7 as one number, high byte first */
@@ -156,6 +176,11 @@ extern "C" {
 #define BROTHLADDER_FIELD_ROUTER 0     /* 136 */
 #define BROTHLADDER_FIELD_SOLICITED 1
 #define BROTHLADDER_FIELD_OVERRIDE 2
+
+/* How far a router or a route is preferred (RFC 4191, section 2.1). */
+#define BROTHLADDER_PREFERENCE_MEDIUM 0u
+#define BROTHLADDER_PREFERENCE_HIGH 1u
+#define BROTHLADDER_PREFERENCE_LOW 3u
 
 /* Each struct begins with the same three fields. None has padding, so every byte is set. A field that an answer does not use is 0. */
 
@@ -216,6 +241,33 @@ struct brothladder_prefix {
     size_t place; /* where the option begins in the packet: offset */
 };
 
+struct brothladder_route {
+    uint32_t answer; /* ROUTE, IGNORED or REFUSED. Of IGNORED all but the place is 0 */
+    uint32_t refusal;
+    uint64_t value[5];
+    uint16_t prefix_length; /* in bits, 0 to 128. Bits of the prefix behind them are not checked */
+    uint16_t preference;    /* BROTHLADDER_PREFERENCE_.. */
+    uint32_t lifetime;      /* in seconds; 4294967295 means forever */
+    uint8_t prefix[16];     /* 0 where the option has no bytes of it */
+    size_t place;           /* where the option begins in the packet: offset */
+};
+
+struct brothladder_servers {
+    uint32_t answer; /* SERVERS or REFUSED */
+    uint32_t refusal;
+    uint64_t value[5];
+    uint64_t lifetime; /* in seconds; 4294967295 means forever */
+    size_t count;      /* one at least; the address of server i is the 16 bytes at option + 8 + 16 * i */
+    size_t place;      /* where the option begins in the packet: offset */
+};
+
+struct brothladder_preferred {
+    uint32_t answer; /* PREFERENCE or REFUSED */
+    uint32_t refusal;
+    uint64_t value[5];
+    uint64_t preference; /* BROTHLADDER_PREFERENCE_.. */
+};
+
 struct brothladder_chain {
     uint32_t answer; /* CHAIN or REFUSED */
     uint32_t refusal;
@@ -241,28 +293,53 @@ struct brothladder_verified brothladder_verify(const uint8_t *packet, size_t len
                                                const uint8_t destination[16]);
 
 /* Checks whether a packet may be used (RFC 4861, sections 6.1, 7.1 and 8.1). Types 133 to 137 get all eight tests, in the order of
- * BROTHLADDER_REASON_..; other types get the checksum test alone. If the answer is RECEIVED, walking the options will reach END. One
- * refused option refuses the whole packet: this is stricter than RFC 4861 on purpose.
+ * BROTHLADDER_REASON_..; other types get the checksum test alone. If the answer is RECEIVED, walking the options in the same edition
+ * will reach END. One refused option refuses the whole packet: this is stricter than RFC 4861 on purpose.
  * Refusals: 1, 2, 11 with the reason in value[0]. */
 BROTHLADDER_ANSWER BROTHLADDER_ADDRESSES(4, 5)
 struct brothladder_received brothladder_receive(const uint8_t *packet, size_t length, uint8_t hop_limit, const uint8_t source[16],
-                                                const uint8_t destination[16]);
+                                                const uint8_t destination[16], uint32_t edition);
 
 /* Reads what stands at place `at` of the option bytes, which begin behind the message's fixed part. `offset` is where they begin in the
- * packet (`options_at` of the receive check). Pass 0 as `at` to the first step, and to each later one the `next` of the step before it.
+ * packet (`options_at` of the receive check). Pass 0 as `at` to the first step, and to each later one the `next` of the step before it;
+ * and to all of them the same `edition`.
  * OPTION: an option, within the bytes. END: there are no more.
  * REFUSED: there is no valid option at this place, and no later one will be returned: the step at `next` is STOPPED.
  * STOPPED: the place is beyond the bytes.
  * A walk that is over stays over: the step at `next` of END is END, the step at `next` of STOPPED is STOPPED.
- * Refusals: 22 at every place up to the end, END's too; else 5, 6, 7. */
+ * Refusals: 22 at every place up to the end, END's too; else 5, 6, 7, and in the second edition 18. */
 BROTHLADDER_ANSWER
-struct brothladder_stepped brothladder_step(const uint8_t *options, size_t length, size_t offset, size_t at);
+struct brothladder_stepped brothladder_step(const uint8_t *options, size_t length, size_t offset, size_t at, uint32_t edition);
 
 /* Reads a prefix information option. Pass the bytes that a step returned with BROTHLADDER_KIND_PREFIX_INFORMATION, and its `place` as
  * `offset`.
  * Refusals: 22; 5 if the length is not 32, 8 if the type byte is not 3 or the length byte is not 4. */
 BROTHLADDER_ANSWER
 struct brothladder_prefix brothladder_read_prefix(const uint8_t *option, size_t length, size_t offset);
+
+/* Reads a route information option (RFC 4191, section 2.3). Pass the bytes that a step in the second edition returned with
+ * BROTHLADDER_KIND_ROUTE_INFORMATION, and its `place` as `offset`. The answer to such bytes is ROUTE. IGNORED is the answer to an option
+ * of type 24 that a step returned as unknown, because its preference is the reserved one: nobody may use it, and no number of it is told.
+ * Refusals: 22; 5 if there are fewer than 8 bytes, 8 if the type byte is not 24, 6 if the length byte is 0, 5 if it says another length;
+ * then those of the second edition: 5 above 24 bytes, 18, 5 if the prefix length needs more bytes. */
+BROTHLADDER_ANSWER
+struct brothladder_route brothladder_read_route(const uint8_t *option, size_t length, size_t offset);
+
+/* Reads a recursive DNS server option (RFC 8106, section 5.1). Pass the bytes that a step in the second edition returned with
+ * BROTHLADDER_KIND_RECURSIVE_DNS_SERVERS, and its `place` as `offset`. The addresses are not copied: server i, counted from 0 and below
+ * `count`, has the 16 bytes from option + 8 + 16 * i on.
+ * Refusals: 22; 5 if there are fewer than 8 bytes, 8 if the type byte is not 25, 6 if the length byte is 0, 5 if it says another length;
+ * then that of the second edition: 5 if the bytes are not 8 and 16 for each of one or more servers. */
+BROTHLADDER_ANSWER
+struct brothladder_servers brothladder_read_dns(const uint8_t *option, size_t length, size_t offset);
+
+/* Tells how far a router advertisement asks that its router be preferred (RFC 4191, section 2.2); MEDIUM for any other message. It looks
+ * at type, code and flags alone: do the receive check first, and where the router lifetime is 0 (BROTHLADDER_FIELD_LIFETIME) do not use
+ * the preference. The bits are reserved ones for this library: brothladder_write writes them as given, and brothladder_write_clearing
+ * writes MEDIUM.
+ * Refusals: 1, 2. */
+BROTHLADDER_ANSWER
+struct brothladder_preferred brothladder_preference(const uint8_t *packet, size_t length);
 
 /* Writes a packet to the start of `out`: the head with the computed checksum, then the payload; 8 + payload_length bytes in all.
  * `bytes5to8` is bytes 4 to 7 of the head as one number, high byte first. All of it is written as given, reserved bits too. A sender
@@ -273,29 +350,29 @@ struct brothladder_prefix brothladder_read_prefix(const uint8_t *option, size_t 
  * written is the packet as it came, with its checksum computed anew. So a packet whose checksum was wrong gets a right one: do the
  * receive check first. And where ff ff stood in the field for a computed 0, 00 00 is written; both are valid. The checksum is that of
  * the bytes that are written: that of brothladder_write is not right for the bytes of brothladder_write_clearing.
- * For types 133 to 137 with code 0 the payload must hold the whole fixed part and then options that walk to END; any other payload is
- * written as it is.
- * Refusals, in this order: 3; then, for types 133 to 137 with code 0, 4 and 5, 6 or 7, with the place in the packet that is being written;
- * then 9. A refusal leaves `out` as it was. A packet that is written changes its own bytes of `out` and none behind them. */
+ * For types 133 to 137 with code 0 the payload must hold the whole fixed part and then options that walk to END in the edition given; any
+ * other payload is written as it is. What is written in the second edition is written in the first, the same bytes.
+ * Refusals, in this order: 3; then, for types 133 to 137 with code 0, 4 and 5, 6, 7 or 18, with the place in the packet that is being
+ * written; then 9. A refusal leaves `out` as it was. A packet that is written changes its own bytes of `out` and none behind them. */
 BROTHLADDER_ANSWER BROTHLADDER_ADDRESSES(6, 7)
 struct brothladder_written brothladder_write(uint8_t type, uint8_t code, uint32_t bytes5to8, const uint8_t *payload,
                                              size_t payload_length, const uint8_t source[16], const uint8_t destination[16],
-                                             uint8_t *out, size_t out_length);
+                                             uint8_t *out, size_t out_length, uint32_t edition);
 
 BROTHLADDER_ANSWER BROTHLADDER_ADDRESSES(6, 7)
 struct brothladder_written brothladder_write_clearing(uint8_t type, uint8_t code, uint32_t bytes5to8, const uint8_t *payload,
                                                       size_t payload_length, const uint8_t source[16], const uint8_t destination[16],
-                                                      uint8_t *out, size_t out_length);
+                                                      uint8_t *out, size_t out_length, uint32_t edition);
 
 BROTHLADDER_ANSWER BROTHLADDER_ADDRESSES(6, 7)
 struct brothladder_written brothladder_write_keeping(uint8_t type, uint8_t code, uint32_t bytes5to8, const uint8_t *payload,
                                                      size_t payload_length, const uint8_t source[16], const uint8_t destination[16],
-                                                     uint8_t *out, size_t out_length);
+                                                     uint8_t *out, size_t out_length, uint32_t edition);
 
 /* Reads which packet a message quotes, and what the quoted packet quotes in turn, up to eight deep: types 1 to 4 quote behind their head,
  * types 133 to 137 in the first redirected-header option. The answer is the whole chain of quotes or a refusal, never a part of a chain:
  *
- *     struct brothladder_chain c = brothladder_chain(packet, length);
+ *     struct brothladder_chain c = brothladder_chain(packet, length, edition);
  *     if (c.answer == BROTHLADDER_CHAIN && c.levels > 0) {
  *         const uint8_t *quoted = packet + c.quote[0];        // 40 bytes of IPv6 header are there: quoted + 8 is who sent it
  *         if (c.next_header[0] == 58 && c.level_kind[0] == BROTHLADDER_TYPE_ECHO_REQUEST)
@@ -303,16 +380,16 @@ struct brothladder_written brothladder_write_keeping(uint8_t type, uint8_t code,
  *     }
  *
  * A quote is what somebody says that you sent: no checksum of it is verified, nor that of the packet (brothladder_receive does that).
- * A message whose type and code are not a known pair has no quote. An option list on the way must walk to END, or nothing is read. A
- * quote that was cut short is refused where the cut shows, and so is an option list that was padded.
- * Refusals: 1, 2; of each message 1, 4 and 5, 6 or 7; of each quote 17, 15, 16, in this order. Inside a quote 1 and 4 count in their
- * own message. */
+ * A message whose type and code are not a known pair has no quote. An option list on the way must walk to END in the edition given, or
+ * nothing is read. A quote that was cut short is refused where the cut shows, and so is an option list that was padded.
+ * Refusals: 1, 2; of each message 1, 4 and 5, 6, 7 or 18; of each quote 17, 15, 16, in this order. Inside a quote 1 and 4 count in
+ * their own message. */
 BROTHLADDER_ANSWER
-struct brothladder_chain brothladder_chain(const uint8_t *packet, size_t length);
+struct brothladder_chain brothladder_chain(const uint8_t *packet, size_t length, uint32_t edition);
 
 /* Returns BROTHLADDER_VERSION. You need not call it: it is here to be referred to. `retain` keeps the reference where the linker drops
  * what nobody uses. */
-uint32_t brothladder_version_4(void);
+uint32_t brothladder_version_5(void);
 
 #if defined(__GNUC__)
 #if defined(__has_attribute)
@@ -323,7 +400,7 @@ uint32_t brothladder_version_4(void);
 #ifndef BROTHLADDER_RETAIN
 #define BROTHLADDER_RETAIN
 #endif
-__attribute__((used)) BROTHLADDER_RETAIN static uint32_t (*const brothladder_version)(void) = brothladder_version_4;
+__attribute__((used)) BROTHLADDER_RETAIN static uint32_t (*const brothladder_version)(void) = brothladder_version_5;
 #endif
 
 #ifdef __cplusplus

@@ -8,6 +8,10 @@
 
 enum { LONGEST_PACKET = 2048, MOST_PREFIXES = (LONGEST_PACKET - 16) / 32 };
 
+/* Named once, and used for the receive check and the walk alike. Who wants prefixes alone goes by the first edition: a malformed route or list of
+   servers, which it hands out as unknown, is no reason to leave the prefixes beside it alone. */
+static const uint32_t edition = BROTHLADDER_EDITION_FIRST;
+
 struct message {
     uint8_t hop_limit, source[16], destination[16];
     uint8_t packet[LONGEST_PACKET];
@@ -26,7 +30,7 @@ static int note_options(const uint8_t *options, size_t length, size_t offset, st
     size_t at = 0;
     noted->count = 0;
     for (;;) {
-        struct brothladder_stepped s = brothladder_step(options, length, offset, at);
+        struct brothladder_stepped s = brothladder_step(options, length, offset, at, edition);
         switch (s.answer) {
         case BROTHLADDER_OPTION:
             if (s.kind == BROTHLADDER_KIND_PREFIX_INFORMATION) {
@@ -54,7 +58,7 @@ static void print_prefix(const struct brothladder_prefix *p) {
 /* One message: the receive check, then the walk, then the act. */
 static void handle(const struct message *m) {
     static struct noted noted;
-    struct brothladder_received r = brothladder_receive(m->packet, m->length, m->hop_limit, m->source, m->destination);
+    struct brothladder_received r = brothladder_receive(m->packet, m->length, m->hop_limit, m->source, m->destination, edition);
     if (r.answer != BROTHLADDER_RECEIVED) {
         printf("refused %u", (unsigned)r.refusal);
         if (r.refusal == BROTHLADDER_REFUSAL_NOT_RECEIVED) printf(" reason %u", (unsigned)r.value[0]);

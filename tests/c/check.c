@@ -16,16 +16,16 @@ void check(int holds, const char *what, const char *detail) {
 }
 
 void same(const char *what, uint64_t got, uint64_t wanted) {
-    char detail[80];
-    snprintf(detail, sizeof detail, "got %llu, wanted %llu", (unsigned long long)got, (unsigned long long)wanted);
+    char detail[80] = "";
+    if (got != wanted) snprintf(detail, sizeof detail, "got %llu, wanted %llu", (unsigned long long)got, (unsigned long long)wanted);
     check(got == wanted, what, detail);
 }
 
 void same_answer(const char *what, const void *got, const void *wanted, size_t size) {
-    char detail[80];
+    char detail[80] = "";
     size_t i = 0;
     while (i < size && ((const uint8_t *)got)[i] == ((const uint8_t *)wanted)[i]) i++;
-    snprintf(detail, sizeof detail, "byte %zu of the answer", i);
+    if (i < size) snprintf(detail, sizeof detail, "byte %zu of the answer", i);
     check(i == size, what, detail);
 }
 

@@ -43,8 +43,8 @@ void refuses(const char *what, const void *answer, size_t size, uint32_t number,
 /* The bytes of a case, written as in docs/RULES.md. */
 size_t hex(const char *text, uint8_t *bytes);
 
-/* Option bytes that are refused, with the refusal; behind its values comes the place. */
-enum { BAD_OPTIONS = 9 };
+/* Option bytes that are refused, with the refusal; behind its values comes the place. The last ones are refused in the second edition alone. */
+enum { BAD_OPTIONS = 16, BAD_IN_BOTH = 9 };
 extern const struct bad_option {
     const char *bytes;
     uint32_t number;
@@ -65,6 +65,13 @@ void note(uint32_t answer, uint32_t refusal, uint64_t value);
 /* Whether each of these numbers came often enough that a comparison says something. */
 void often(const char *what, const unsigned long *counts, const char *numbers);
 
+/* An edition by chance: the second half of the time, else the first by its number or by another one, which is the first too. */
+uint32_t some_edition(void);
+
+/* Walks a list in both editions and sees that they go together (docs/RULES.md E7, E8); and, after a run, whether that was often of each way. */
+void both_editions(const uint8_t *options, size_t length, size_t offset);
+void editions_compared(void);
+
 /* How many packets chance brings about. */
 #ifndef PACKETS
 #define PACKETS 100000
@@ -74,11 +81,11 @@ void often(const char *what, const unsigned long *counts, const char *numbers);
 enum { LONGEST = 400 };
 void write_again(const uint8_t *packet, size_t n, const uint8_t *source, const uint8_t *destination);
 
-/* Passes a packet on that was received, and sends it as one's own; and whether those that were had reserved bits to keep. */
-void pass_on(const uint8_t *packet, size_t n, const uint8_t *source, const uint8_t *destination);
+/* Passes a packet on that was received in an edition, and sends it as one's own; and whether those that were had reserved bits to keep. */
+void pass_on(const uint8_t *packet, size_t n, const uint8_t *source, const uint8_t *destination, uint32_t edition);
 void passed_on(void);
 
-/* Up to four options in good order, and bytes that are damaged; the length of what is there. */
+/* Up to four options in good order, but for some routes and servers, and bytes that are damaged; the length of what is there. */
 size_t some_options(uint8_t *p);
 size_t damage(uint8_t *p, size_t n);
 
@@ -87,6 +94,8 @@ void cases(void);   /* the worked cases P1 to P13, every refusal, edges */
 void writes(void);  /* the packet writer */
 void forwards(void); /* packets that are passed on */
 void lengths(void); /* where a piece of the sum ends */
+void editions(void); /* what the second edition looks at, every number of an edition */
+void newer(void);   /* routes, servers and the preference, read by themselves */
 void joined(void);  /* option lists cut at every place */
 void damaged(void); /* 100,000 packets, random and damaged, beside plain.c */
 void quotes(void);  /* packets quoted in packets: the worked cases of area Q, and 100,000 nests beside plain.c */

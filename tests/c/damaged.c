@@ -1,5 +1,5 @@
-/* 100,000 packets, random and damaged, with the answers of plain.c beside those of the library. Each answer must turn up often
-   enough that the comparison says something. What is received is passed on (forward.c). */
+/* 100,000 packets, random and damaged, each in an edition by chance, with the answers of plain.c beside those of the library. Each answer must turn up
+   often enough that the comparison says something. What is received is passed on (forward.c), and every list is walked in both editions (editions.c). */
 #include "check.h"
 #include "plain.h"
 #include <stdio.h>
@@ -21,13 +21,26 @@ static void any_address(uint8_t *a) {
     for (int k = 0; k < 16; k++) a[k] = i < 8 ? addresses[i][k] : (uint8_t)chance();
 }
 
+/* How many units an option has, of a type that looks at them; for a route and for servers by chance as many as it must have. */
+static uint32_t some_units(uint32_t type) {
+    switch (type) {
+    case 3: return 4;
+    case 5: return 1;
+    case 24: return below(8) ? 1 + below(3) : 1 + below(5);
+    case 25: return below(8) ? 3 + 2 * below(2) : 1 + below(5);
+    default: return 1 + below(4);
+    }
+}
+
 size_t some_options(uint8_t *p) {
     size_t n = 0;
     for (uint32_t k = below(5); k > 0; k--) {
-        uint32_t type = below(4) ? 1 + below(5) : below(256), units = type == 3 ? 4 : type == 5 ? 1 : 1 + below(4);
+        static const uint8_t types[] = {1, 2, 3, 4, 5, 24, 24, 25};
+        uint32_t type = below(6) ? types[below(8)] : below(256), units = some_units(type);
         for (size_t i = 0; i < 8 * units; i++) p[n + i] = (uint8_t)chance();
         p[n] = (uint8_t)type;
         p[n + 1] = (uint8_t)units;
+        if (type == 24 && below(8)) p[n + 2] = (uint8_t)below(units == 1 ? 1 : units == 2 ? 65 : 129);
         n += 8 * units;
     }
     return n;
@@ -64,7 +77,7 @@ size_t damage(uint8_t *p, size_t n) {
 }
 
 enum { REFUSALS = 23 }; /* one more than the last number */
-static unsigned long seen[16], reasons[9], refusals[REFUSALS];
+static unsigned long seen[16], reasons[9], refusals[REFUSALS], kinds[26], first_alone;
 
 void note(uint32_t answer, uint32_t refusal, uint64_t value) {
     seen[answer & 15]++;
@@ -84,23 +97,25 @@ static size_t some_offset(size_t length) {
 }
 
 /* The whole walk, and a step at some place that no step handed on. */
-static void walks(const uint8_t *options, size_t length, size_t offset) {
+static void walks(const uint8_t *options, size_t length, size_t offset, uint32_t edition) {
     enum side side = below(2) ? LOW : HIGH;
     const uint8_t *p = lend(PACKET, side, options, length);
     size_t at = 0;
     struct brothladder_stepped s, w;
     for (int over = 0; over < 3;) {
-        s = brothladder_step(p, length, offset, at);
-        w = plain_step(options, length, offset, at);
+        s = brothladder_step(p, length, offset, at, edition);
+        w = plain_step(options, length, offset, at, edition);
         same_answer("step", &s, &w, sizeof s);
         note(s.answer, s.refusal, 0);
+        if (s.answer == BROTHLADDER_OPTION) kinds[s.kind % 26]++;
         if (s.answer != BROTHLADDER_OPTION || s.next <= at) over++;
         at = s.next;
     }
     at = below(2) ? below((uint32_t)length + 3) : (size_t)chance();
-    s = brothladder_step(p, length, offset, at);
-    w = plain_step(options, length, offset, at);
+    s = brothladder_step(p, length, offset, at, edition);
+    w = plain_step(options, length, offset, at, edition);
     same_answer("step anywhere", &s, &w, sizeof s);
+    both_editions(p, length, offset);
     if (length >= 32) {
         struct brothladder_prefix r = brothladder_read_prefix(p, 32, offset), rw = plain_prefix(options, 32, offset);
         same_answer("prefix", &r, &rw, sizeof r);
@@ -109,7 +124,18 @@ static void walks(const uint8_t *options, size_t length, size_t offset) {
     check(stands(PACKET, options, length), "a walk", "the options are left alone");
 }
 
-static void reads(const uint8_t *packet, size_t n, uint8_t hop_limit, const uint8_t *source, const uint8_t *destination) {
+/* E10: what is accepted in the second edition is accepted in the first, and handed on alike. */
+static void accepted_in_both(const uint8_t *packet, size_t n, uint8_t hop_limit, const uint8_t *source, const uint8_t *destination) {
+    struct brothladder_received one = brothladder_receive(packet, n, hop_limit, source, destination, BROTHLADDER_EDITION_FIRST);
+    struct brothladder_received two = brothladder_receive(packet, n, hop_limit, source, destination, BROTHLADDER_EDITION_SECOND);
+    if (two.answer == BROTHLADDER_RECEIVED) same_answer("received in the second edition, and in the first", &one, &two, sizeof one);
+    if (one.answer == BROTHLADDER_RECEIVED && two.answer != BROTHLADDER_RECEIVED) {
+        refuses("received in the first edition alone", &two, sizeof two, 11, BROTHLADDER_REASON_OPTIONS, 0, 0, 0, 0);
+        first_alone++;
+    }
+}
+
+static void reads(const uint8_t *packet, size_t n, uint8_t hop_limit, const uint8_t *source, const uint8_t *destination, uint32_t edition) {
     enum side side = below(2) ? LOW : HIGH;
     const uint8_t *p = lend(PACKET, side, packet, n), *from = lend(SOURCE, side, source, 16), *to = lend(DESTINATION, side, destination, 16);
     struct brothladder_head h = brothladder_decode(p, n), hw = plain_decode(packet, n);
@@ -118,14 +144,15 @@ static void reads(const uint8_t *packet, size_t n, uint8_t hop_limit, const uint
     struct brothladder_verified v = brothladder_verify(p, n, from, to), vw = plain_verify(packet, n, source, destination);
     same_answer("verify", &v, &vw, sizeof v);
     note(v.answer, v.refusal, 0);
-    struct brothladder_received r = brothladder_receive(p, n, hop_limit, from, to);
-    struct brothladder_received rw = plain_receive(packet, n, hop_limit, source, destination);
+    struct brothladder_received r = brothladder_receive(p, n, hop_limit, from, to, edition);
+    struct brothladder_received rw = plain_receive(packet, n, hop_limit, source, destination, edition);
     same_answer("receive", &r, &rw, sizeof r);
     note(r.answer, r.refusal, r.value[0]);
+    accepted_in_both(p, n, hop_limit, from, to);
     check(stands(PACKET, packet, n) && stands(SOURCE, source, 16) && stands(DESTINATION, destination, 16), "reading", "all is left alone");
     if (r.answer != BROTHLADDER_RECEIVED) return;
-    walks(packet + r.options_at, r.options_length, r.options_at);
-    pass_on(packet, n, source, destination);
+    walks(packet + r.options_at, r.options_length, r.options_at, edition);
+    pass_on(packet, n, source, destination, edition);
 }
 
 void often(const char *what, const unsigned long *counts, const char *numbers) {
@@ -155,12 +182,14 @@ void damaged(void) {
             packet[2] = (uint8_t)(sum >> 8);
             packet[3] = (uint8_t)sum;
         }
-        reads(packet, n, below(8) ? 255 : (uint8_t)chance(), source, destination);
-        if (n > 8) walks(packet + 8, n - 8, some_offset(n - 8));
+        reads(packet, n, below(8) ? 255 : (uint8_t)chance(), source, destination, some_edition());
+        if (n > 8) walks(packet + 8, n - 8, some_offset(n - 8), some_edition());
         write_again(packet, n, source, destination);
     }
     often("answer", seen, "1 2 3 4 5 6 7 8 9 10 11");
-    often("refusal", refusals, "1 4 5 6 7 8 9 11 22");
+    often("refusal", refusals, "1 4 5 6 7 8 9 11 18 22");
     often("reason", reasons, "1 2 3 4 5 6 7 8");
+    often("kind", kinds, "0 1 2 3 4 5 24 25");
+    check(first_alone >= 500, "received in the first edition alone", "often enough");
     passed_on();
 }

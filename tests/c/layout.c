@@ -48,6 +48,24 @@ AT(prefix, prefix, 64, 16);
 AT(prefix, place, 80, 8);
 ENDS(prefix, 88);
 
+BEGINS(route);
+AT(route, prefix_length, 48, 2);
+AT(route, preference, 50, 2);
+AT(route, lifetime, 52, 4);
+AT(route, prefix, 56, 16);
+AT(route, place, 72, 8);
+ENDS(route, 80);
+
+BEGINS(servers);
+AT(servers, lifetime, 48, 8);
+AT(servers, count, 56, 8);
+AT(servers, place, 64, 8);
+ENDS(servers, 72);
+
+BEGINS(preferred);
+AT(preferred, preference, 48, 8);
+ENDS(preferred, 56);
+
 BEGINS(chain);
 AT(chain, kind, 48, 4);
 AT(chain, levels, 52, 4);

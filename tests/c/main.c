@@ -7,10 +7,13 @@ int main(void) {
     cases();
     writes();
     forwards();
+    editions();
+    newer();
     joined();
     damaged();
     quotes();
     lengths();
+    editions_compared();
     printf("%lu passed, %lu failed\n", passed, failed);
     return failed != 0 || passed == 0;
 }

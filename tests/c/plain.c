@@ -1,4 +1,4 @@
-/* Plain C that gives the answers of brothladder.h, written from the rules (docs/RULES.md), which the comments name. */
+/* Plain C that gives the answers of brothladder.h, written from the rules (docs/RULES.md) and the RFCs, which the comments name. */
 #include "plain.h"
 #include <stdbool.h>
 #include <string.h>
@@ -114,8 +114,37 @@ struct brothladder_verified plain_verify(const uint8_t *packet, size_t length, c
     return v;
 }
 
-/* W4 and A2: the refusal of what stands at the head of the bytes that are left, with its place in the packet; 0 for an option. */
-static uint32_t bad_option(const uint8_t *p, size_t left, size_t place, uint64_t value[5]) {
+/* E1: the number 2 is the second edition, every other number the first. */
+static bool in_second(uint32_t edition) { return edition == 2; }
+
+/* RFC 4191, section 2.3: the prefix of a route has 0, 8 or 16 bytes behind the option's first eight, by the bits that are valid of it. */
+static size_t route_needs(uint8_t prefix_bits) {
+    if (prefix_bits == 0) return 8;
+    return prefix_bits > 64 ? 24 : 16;
+}
+
+/* E3 and E4: what the second edition asks of an option that is all there and is a route or a list of servers; 0 where nothing is wrong. */
+static uint32_t bad_newer_option(const uint8_t *p, size_t place, uint64_t value[5]) {
+    size_t bytes = 8 * (size_t)p[1], needs = 24;
+    if (p[0] == 24 && bytes <= 24) {
+        if (p[2] > 128) return value[0] = place, value[3] = 0, 18;
+        needs = route_needs(p[2]);
+        if (bytes >= needs) return 0;
+    }
+    /* RFC 8106, section 5.1: eight bytes, and sixteen for each address, of which there is at least one */
+    if (p[0] == 25 && bytes >= 24 && (bytes - 8) % 16 == 0) return 0;
+    return value[1] = needs, value[2] = bytes, 5;
+}
+
+/* E5: the kind of an option that passed its tests. RFC 4191, section 2.1: the bits 10 of a preference are reserved. */
+static uint32_t kind_of(const uint8_t *p, uint32_t edition) {
+    if (p[0] <= 5) return p[0];
+    if (!in_second(edition) || (p[0] != 24 && p[0] != 25)) return 0;
+    return p[0] == 24 && (p[3] & 0x18) == 0x10 ? 0 : p[0];
+}
+
+/* W4, A2 and E3: the refusal of what stands at the head of the bytes that are left, with its place in the packet; 0 for an option. */
+static uint32_t bad_option(const uint8_t *p, size_t left, size_t place, uint32_t edition, uint64_t value[5]) {
     value[0] = p[0];
     value[3] = place;
     if (left < 2) return value[1] = 2, value[2] = left, 5;
@@ -124,13 +153,17 @@ static uint32_t bad_option(const uint8_t *p, size_t left, size_t place, uint64_t
     if (left < bytes) return value[1] = bytes, value[2] = left, 7;
     if (p[0] == 3 && bytes != 32) return value[1] = 32, value[2] = bytes, 5;
     if (p[0] == 5 && bytes != 8) return value[1] = 8, value[2] = bytes, 5;
+    if (in_second(edition) && (p[0] == 24 || p[0] == 25)) {
+        uint32_t refusal = bad_newer_option(p, place, value);
+        if (refusal != 0) return refusal;
+    }
     return value[0] = value[3] = 0;
 }
 
 /* A3, refusal 22: the bytes would reach beyond the longest packet. */
 static bool far(size_t offset, size_t length) { return offset > 4294967295u || length > 4294967295u - offset; }
 
-struct brothladder_stepped plain_step(const uint8_t *options, size_t length, size_t offset, size_t at) {
+struct brothladder_stepped plain_step(const uint8_t *options, size_t length, size_t offset, size_t at, uint32_t edition) {
     struct brothladder_stepped s;
     memset(&s, 0, sizeof s);
     s.next = at;
@@ -140,11 +173,11 @@ struct brothladder_stepped plain_step(const uint8_t *options, size_t length, siz
     else if (at == length)
         return s.answer = BROTHLADDER_END, s;
     else
-        s.refusal = bad_option(options + at, length - at, offset + at, s.value);
+        s.refusal = bad_option(options + at, length - at, offset + at, edition, s.value);
     if (s.refusal != 0) return s.answer = BROTHLADDER_REFUSED, s.next = length + 1, s;
     const uint8_t *p = options + at;
     s.answer = BROTHLADDER_OPTION;
-    s.kind = p[0] <= 5 ? p[0] : 0;
+    s.kind = kind_of(p, edition);
     s.type = p[0];
     s.at = at;
     s.length = 8 * (size_t)p[1];
@@ -154,10 +187,10 @@ struct brothladder_stepped plain_step(const uint8_t *options, size_t length, siz
 }
 
 /* The refusal of a whole walk, from a place of the packet on; 0 for a clean one. `source_option` says whether a type 1 is among the options. */
-static uint32_t bad_walk(const uint8_t *p, size_t left, size_t place, uint64_t value[5], bool *source_option) {
+static uint32_t bad_walk(const uint8_t *p, size_t left, size_t place, uint32_t edition, uint64_t value[5], bool *source_option) {
     uint32_t refusal = 0;
     *source_option = false;
-    while (left > 0 && (refusal = bad_option(p, left, place, value)) == 0) {
+    while (left > 0 && (refusal = bad_option(p, left, place, edition, value)) == 0) {
         *source_option = *source_option || p[0] == 1;
         left -= 8 * (size_t)p[1];
         place += 8 * (size_t)p[1];
@@ -175,7 +208,8 @@ static bool solicited_node(const uint8_t *a) {
 }
 
 /* The reason why a packet of 8 bytes at least does not pass; 0 if it does. */
-static uint32_t reason(const uint8_t *p, size_t length, uint8_t hop_limit, const uint8_t *source, const uint8_t *destination) {
+static uint32_t reason(const uint8_t *p, size_t length, uint8_t hop_limit, const uint8_t *source, const uint8_t *destination,
+                       uint32_t edition) {
     int type = p[0];
     uint64_t value[5];
     bool source_option;
@@ -185,7 +219,7 @@ static uint32_t reason(const uint8_t *p, size_t length, uint8_t hop_limit, const
     if (p[1] != 0) return 3;
     size_t start = 8 + fixed_part(type);
     if (length < start) return 4;
-    if (bad_walk(p + start, length - start, start, value, &source_option)) return 5;
+    if (bad_walk(p + start, length - start, start, edition, value, &source_option)) return 5;
     const uint8_t *target = p + 8, *field = p + 24;
     switch (type) {
     case 133:
@@ -206,12 +240,12 @@ static uint32_t reason(const uint8_t *p, size_t length, uint8_t hop_limit, const
 }
 
 struct brothladder_received plain_receive(const uint8_t *packet, size_t length, uint8_t hop_limit, const uint8_t *source,
-                                          const uint8_t *destination) {
+                                          const uint8_t *destination, uint32_t edition) {
     struct brothladder_received r;
     memset(&r, 0, sizeof r);
     r.answer = BROTHLADDER_REFUSED;
     if ((r.refusal = bad_length(length, r.value)) != 0) return r;
-    if ((r.value[0] = reason(packet, length, hop_limit, source, destination)) != 0) return r.refusal = 11, r;
+    if ((r.value[0] = reason(packet, length, hop_limit, source, destination, edition)) != 0) return r.refusal = 11, r;
     r.answer = BROTHLADDER_RECEIVED;
     r.options_at = neighbor_discovery(packet[0]) ? 8 + fixed_part(packet[0]) : length;
     r.options_length = length - r.options_at;
@@ -231,7 +265,8 @@ static uint32_t cleared(int type, int code, uint32_t bytes5to8) {
 
 /* H17, T9: `rest` is bytes 4 to 7 as they are written. */
 static struct brothladder_written write_head(uint8_t type, uint8_t code, uint32_t rest, const uint8_t *payload, size_t payload_length,
-                                             const uint8_t *source, const uint8_t *destination, uint8_t *out, size_t out_length) {
+                                             const uint8_t *source, const uint8_t *destination, uint8_t *out, size_t out_length,
+                                             uint32_t edition) {
     struct brothladder_written w;
     bool source_option;
     memset(&w, 0, sizeof w);
@@ -240,7 +275,7 @@ static struct brothladder_written write_head(uint8_t type, uint8_t code, uint32_
     if (neighbor_discovery(type) && code == 0) {
         size_t fixed = fixed_part(type);
         if (payload_length < fixed) return w.value[0] = fixed, w.value[1] = payload_length, w.refusal = 4, w;
-        if ((w.refusal = bad_walk(payload + fixed, payload_length - fixed, 8 + fixed, w.value, &source_option)) != 0) return w;
+        if ((w.refusal = bad_walk(payload + fixed, payload_length - fixed, 8 + fixed, edition, w.value, &source_option)) != 0) return w;
     }
     if (out_length < 8 + payload_length) return w.value[0] = 8 + payload_length, w.refusal = 9, w;
     const uint8_t head[8] = {type, code, 0, 0, (uint8_t)(rest >> 24), (uint8_t)(rest >> 16), (uint8_t)(rest >> 8), (uint8_t)rest};
@@ -255,14 +290,15 @@ static struct brothladder_written write_head(uint8_t type, uint8_t code, uint32_
 }
 
 struct brothladder_written plain_write(uint8_t type, uint8_t code, uint32_t bytes5to8, const uint8_t *payload, size_t payload_length,
-                                       const uint8_t *source, const uint8_t *destination, uint8_t *out, size_t out_length) {
-    return write_head(type, code, bytes5to8, payload, payload_length, source, destination, out, out_length);
+                                       const uint8_t *source, const uint8_t *destination, uint8_t *out, size_t out_length,
+                                       uint32_t edition) {
+    return write_head(type, code, bytes5to8, payload, payload_length, source, destination, out, out_length, edition);
 }
 
 struct brothladder_written plain_write_clearing(uint8_t type, uint8_t code, uint32_t bytes5to8, const uint8_t *payload,
                                                 size_t payload_length, const uint8_t *source, const uint8_t *destination, uint8_t *out,
-                                                size_t out_length) {
-    return write_head(type, code, cleared(type, code, bytes5to8), payload, payload_length, source, destination, out, out_length);
+                                                size_t out_length, uint32_t edition) {
+    return write_head(type, code, cleared(type, code, bytes5to8), payload, payload_length, source, destination, out, out_length, edition);
 }
 
 /* O1 and O4: a prefix information option. */
@@ -298,11 +334,11 @@ static struct brothladder_chain no_chain(uint32_t refusal, const uint64_t value[
 }
 
 /* Q4: the quote in the first option of type 4 of a list that walks clean; `*end` is 0 where there is none. The refusal, or 0. */
-static uint32_t quote_in_list(const uint8_t *packet, size_t *at, size_t *end, uint64_t value[5]) {
+static uint32_t quote_in_list(const uint8_t *packet, size_t *at, size_t *end, uint32_t edition, uint64_t value[5]) {
     size_t list = *at, stop = *end, bytes;
     uint32_t refusal;
     for (*end = 0; list < stop; list += bytes) {
-        if ((refusal = bad_option(packet + list, stop - list, list, value)) != 0) return refusal;
+        if ((refusal = bad_option(packet + list, stop - list, list, edition, value)) != 0) return refusal;
         bytes = 8 * (size_t)packet[list + 1];
         if (packet[list] == 4 && *end == 0) *at = list + 8, *end = list + bytes;
     }
@@ -310,7 +346,7 @@ static uint32_t quote_in_list(const uint8_t *packet, size_t *at, size_t *end, ui
 }
 
 /* Q1 to Q10: `at` to `end` is a message, and then the quote in it. */
-struct brothladder_chain plain_chain(const uint8_t *packet, size_t length) {
+struct brothladder_chain plain_chain(const uint8_t *packet, size_t length, uint32_t edition) {
     struct brothladder_chain c;
     uint64_t value[5] = {0};
     uint32_t refusal = bad_length(length, value);
@@ -333,7 +369,7 @@ struct brothladder_chain plain_chain(const uint8_t *packet, size_t length) {
             if (value[1] < value[0]) return no_chain(4, value);
             value[0] = value[1] = 0;
             at += 8 + fixed_part(type);
-            if ((refusal = quote_in_list(packet, &at, &end, value)) != 0) return no_chain(refusal, value);
+            if ((refusal = quote_in_list(packet, &at, &end, edition, value)) != 0) return no_chain(refusal, value);
             if (end == 0) return c;
         } else {
             return c;
@@ -350,4 +386,62 @@ struct brothladder_chain plain_chain(const uint8_t *packet, size_t length) {
         c.levels++;
         at += 40;
     }
+}
+
+/* O2, then O10: the refusal of an option of this type that is read by itself; 0 for none. */
+static uint32_t bad_alone(const uint8_t *option, size_t length, size_t offset, uint8_t type, uint64_t value[5]) {
+    if (far(offset, length)) return 22;
+    value[0] = type;
+    value[3] = offset;
+    if (length < 8) return value[1] = 8, value[2] = length, 5;
+    if (option[0] != type) return value[1] = option[0], value[2] = value[3] = option[1], value[4] = offset, 8;
+    if (option[1] == 0) return value[1] = offset, value[3] = 0, 6;
+    if (length != 8 * (size_t)option[1]) return value[1] = 8 * (size_t)option[1], value[2] = length, 5;
+    uint32_t refusal = bad_newer_option(option, offset, value);
+    if (refusal == 0) value[0] = value[3] = 0;
+    return refusal;
+}
+
+/* H21, and O11: bits 16 and 8 of the flags, of which 10 is no preference. */
+static unsigned preference(uint8_t flags) {
+    unsigned bits = flags >> 3 & 3;
+    return bits == 2 ? 0 : bits;
+}
+
+struct brothladder_route plain_route(const uint8_t *option, size_t length, size_t offset) {
+    struct brothladder_route r;
+    memset(&r, 0, sizeof r);
+    r.answer = BROTHLADDER_REFUSED;
+    if ((r.refusal = bad_alone(option, length, offset, 24, r.value)) != 0) return r;
+    r.place = offset;
+    if ((option[3] & 0x18) == 0x10) return r.answer = BROTHLADDER_IGNORED, r;
+    r.answer = BROTHLADDER_ROUTE;
+    r.prefix_length = option[2];
+    r.preference = (uint16_t)preference(option[3]);
+    r.lifetime = number(option + 4, 4);
+    memcpy(r.prefix, option + 8, length - 8);
+    return r;
+}
+
+/* O13 */
+struct brothladder_servers plain_dns(const uint8_t *option, size_t length, size_t offset) {
+    struct brothladder_servers s;
+    memset(&s, 0, sizeof s);
+    s.answer = BROTHLADDER_REFUSED;
+    if ((s.refusal = bad_alone(option, length, offset, 25, s.value)) != 0) return s;
+    s.answer = BROTHLADDER_SERVERS;
+    s.lifetime = number(option + 4, 4);
+    s.count = (length - 8) / 16;
+    s.place = offset;
+    return s;
+}
+
+struct brothladder_preferred plain_preference(const uint8_t *packet, size_t length) {
+    struct brothladder_preferred p;
+    memset(&p, 0, sizeof p);
+    p.answer = BROTHLADDER_REFUSED;
+    if ((p.refusal = bad_length(length, p.value)) != 0) return p;
+    p.answer = BROTHLADDER_PREFERENCE;
+    if (packet[0] == 134 && packet[1] == 0) p.preference = preference(packet[5]);
+    return p;
 }

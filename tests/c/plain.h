@@ -5,16 +5,20 @@
 
 struct brothladder_head plain_decode(const uint8_t *packet, size_t length);
 struct brothladder_verified plain_verify(const uint8_t *packet, size_t length, const uint8_t *source, const uint8_t *destination);
-struct brothladder_stepped plain_step(const uint8_t *options, size_t length, size_t offset, size_t at);
+struct brothladder_stepped plain_step(const uint8_t *options, size_t length, size_t offset, size_t at, uint32_t edition);
 struct brothladder_received plain_receive(const uint8_t *packet, size_t length, uint8_t hop_limit, const uint8_t *source,
-                                          const uint8_t *destination);
+                                          const uint8_t *destination, uint32_t edition);
 struct brothladder_written plain_write(uint8_t type, uint8_t code, uint32_t bytes5to8, const uint8_t *payload, size_t payload_length,
-                                       const uint8_t *source, const uint8_t *destination, uint8_t *out, size_t out_length);
+                                       const uint8_t *source, const uint8_t *destination, uint8_t *out, size_t out_length,
+                                       uint32_t edition);
 struct brothladder_written plain_write_clearing(uint8_t type, uint8_t code, uint32_t bytes5to8, const uint8_t *payload,
                                                 size_t payload_length, const uint8_t *source, const uint8_t *destination, uint8_t *out,
-                                                size_t out_length);
+                                                size_t out_length, uint32_t edition);
 struct brothladder_prefix plain_prefix(const uint8_t *option, size_t length, size_t offset);
-struct brothladder_chain plain_chain(const uint8_t *packet, size_t length);
+struct brothladder_route plain_route(const uint8_t *option, size_t length, size_t offset);
+struct brothladder_servers plain_dns(const uint8_t *option, size_t length, size_t offset);
+struct brothladder_preferred plain_preference(const uint8_t *packet, size_t length);
+struct brothladder_chain plain_chain(const uint8_t *packet, size_t length, uint32_t edition);
 
 /* the checksum that a packet's field should have */
 unsigned plain_checksum(const uint8_t *packet, size_t length, const uint8_t *source, const uint8_t *destination);

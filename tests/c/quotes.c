@@ -1,5 +1,6 @@
-/* docs/RULES.md, area Q: the packets quoted in a packet. The worked cases; then 100,000 nests, random and damaged, with the answers of plain.c beside
-   those of the library, and each message of a chain read by itself. Each answer must come often enough that the comparison says something. */
+/* docs/RULES.md, area Q: the packets quoted in a packet. The worked cases; then 100,000 nests, random and damaged, each in an edition by chance, with the
+   answers of plain.c beside those of the library, and each message of a chain read by itself. Each answer must come often enough that the comparison says
+   something. */
 #include "check.h"
 #include "plain.h"
 #include <stdio.h>
@@ -45,14 +46,26 @@ static size_t nest(int deep, uint8_t *p, size_t n) {
     return n;
 }
 
-static void refused(const char *what, const uint8_t *p, size_t n, uint32_t number, uint64_t v0, uint64_t v1, uint64_t v2, uint64_t v3) {
-    struct brothladder_chain c = brothladder_chain(p, n);
-    refuses(what, &c, sizeof c, number, v0, v1, v2, v3, 0);
+enum { FIRST = BROTHLADDER_EDITION_FIRST, SECOND = BROTHLADDER_EDITION_SECOND };
+
+static void refused_from(uint32_t edition, const char *what, const uint8_t *p, size_t n, uint32_t number, uint64_t v0, uint64_t v1, uint64_t v2,
+                         uint64_t v3) {
+    for (; edition <= SECOND; edition++) {
+        struct brothladder_chain c = brothladder_chain(p, n, edition);
+        refuses(what, &c, sizeof c, number, v0, v1, v2, v3, 0);
+    }
 }
 
-/* A chain whose every quote is in a message of type 1 but the first, and whose last level has this next header and kind. */
-static void chained(const char *what, const uint8_t *p, size_t n, uint32_t kind, uint32_t levels, uint32_t first, uint8_t next_header, uint8_t last) {
-    struct brothladder_chain c = brothladder_chain(p, n), wanted;
+/* In both editions. */
+static void refused(const char *what, const uint8_t *p, size_t n, uint32_t number, uint64_t v0, uint64_t v1, uint64_t v2, uint64_t v3) {
+    refused_from(FIRST, what, p, n, number, v0, v1, v2, v3);
+}
+
+/* A chain whose every quote is in a message of type 1 but the first, and whose last level has this next header and kind. In the first edition and, up
+   to the last that is asked for, in the second. */
+static void chained_to(uint32_t last_edition, const char *what, const uint8_t *p, size_t n, uint32_t kind, uint32_t levels, uint32_t first,
+                       uint8_t next_header, uint8_t last) {
+    struct brothladder_chain c, wanted;
     memset(&wanted, 0, sizeof wanted);
     wanted.answer = BROTHLADDER_CHAIN;
     wanted.kind = kind;
@@ -62,7 +75,14 @@ static void chained(const char *what, const uint8_t *p, size_t n, uint32_t kind,
         wanted.next_header[i] = i + 1 < levels ? 58 : next_header;
         wanted.level_kind[i] = i + 1 < levels ? 1 : last;
     }
-    same_answer(what, &c, &wanted, sizeof c);
+    for (uint32_t edition = FIRST; edition <= last_edition; edition++) {
+        c = brothladder_chain(p, n, edition);
+        same_answer(what, &c, &wanted, sizeof c);
+    }
+}
+
+static void chained(const char *what, const uint8_t *p, size_t n, uint32_t kind, uint32_t levels, uint32_t first, uint8_t next_header, uint8_t last) {
+    chained_to(SECOND, what, p, n, kind, levels, first, next_header, last);
 }
 
 static void worked(void) {
@@ -100,6 +120,24 @@ static void worked(void) {
     same("a padded list", n, 120);
 }
 
+/* E10: lists that the second edition refuses, outside and in a quote; the first reads the chain. */
+static void worked_in_editions(void) {
+    static const uint8_t route[32] = {24, 4}, far[8] = {24, 1, 129}, servers[16] = {25, 2};
+    static uint8_t p[MOST];
+    size_t n = redirect(p, option(p, quote(17, p, 0)));
+    chained("a redirect", p, n, 137, 1, 48, 17, 0);
+    n = behind(p, n, route, 32);
+    chained_to(FIRST, "four units of a route behind the quote", p, n, 137, 1, 48, 17, 0);
+    refused_from(SECOND, "four units of a route behind the quote", p, n, 5, 24, 24, 32, 88);
+    n = message(1, 0, p, quote(58, p, redirect(p, before(far, 8, p, option(p, quote(17, p, 0))))));
+    struct brothladder_chain c = brothladder_chain(p, n, FIRST);
+    check(c.answer == BROTHLADDER_CHAIN && c.levels == 2 && c.quote[1] == 104, "a far route in a quote", "in the first edition two levels");
+    refused_from(SECOND, "a far route in a quote", p, n, 18, 88, 0, 0, 0);
+    n = message(1, 0, p, quote(58, p, message(133, 0, p, before(servers, 16, p, 0))));
+    chained_to(FIRST, "two units of servers in a quote", p, n, 1, 1, 8, 58, 133);
+    refused_from(SECOND, "two units of servers in a quote", p, n, 5, 25, 24, 16, 56);
+}
+
 /* The kinds that quote, and those codes of theirs that are not listed: read by the kind, not by the type's number. */
 static void kinds(void) {
     static uint8_t p[MOST];
@@ -108,7 +146,8 @@ static void kinds(void) {
             size_t n = quote(17, p, 0);
             if (type >= 133 && type <= 137) n = before(NULL, (const size_t[]){0, 8, 16, 16, 32}[type - 133], p, option(p, n));
             n = message((uint8_t)type, (uint8_t)code, p, n);
-            struct brothladder_chain c = brothladder_chain(p, n), w = plain_chain(p, n);
+            uint32_t edition = some_edition();
+            struct brothladder_chain c = brothladder_chain(p, n, edition), w = plain_chain(p, n, edition);
             same_answer("a type and a code that may quote", &c, &w, sizeof c);
             same("and its kind", c.kind, brothladder_decode(p, n).answer == BROTHLADDER_KNOWN ? (uint32_t)type : 0);
         }
@@ -151,17 +190,17 @@ static size_t around(uint8_t *p, size_t n) {
     return message((uint8_t)(133 + k), 0, p, before(NULL, (const size_t[]){0, 8, 16, 16, 32}[k], p, n));
 }
 
-static unsigned long deep[9], refusals[23];
+static unsigned long deep[9], refusals[23], first_alone;
 
 /* Q13: what stands behind a level is the chain of its message, read by itself. */
-static void by_itself(const uint8_t *p, size_t n, const struct brothladder_chain *c) {
+static void by_itself(const uint8_t *p, size_t n, const struct brothladder_chain *c, uint32_t edition) {
     size_t end = n;
     for (uint32_t i = 0; i < c->levels; i++) {
         uint32_t outside = i == 0 ? c->kind : c->level_kind[i - 1];
         if (outside > 4) end = c->quote[i] - 8 + 8 * (size_t)p[c->quote[i] - 7];
         if (c->next_header[i] != 58) return;
         size_t at = c->quote[i] + 40;
-        struct brothladder_chain own = brothladder_chain(p + at, end - at), wanted;
+        struct brothladder_chain own = brothladder_chain(p + at, end - at, edition), wanted;
         memset(&wanted, 0, sizeof wanted);
         wanted.answer = BROTHLADDER_CHAIN;
         wanted.kind = c->level_kind[i];
@@ -175,10 +214,19 @@ static void by_itself(const uint8_t *p, size_t n, const struct brothladder_chain
     }
 }
 
+/* E10: a chain that is read in the second edition is read in the first. */
+static void read_in_both(const uint8_t *p, size_t n) {
+    struct brothladder_chain one = brothladder_chain(p, n, FIRST), two = brothladder_chain(p, n, SECOND);
+    if (two.answer == BROTHLADDER_CHAIN) same_answer("a chain in the second edition, and in the first", &one, &two, sizeof one);
+    else first_alone += one.answer == BROTHLADDER_CHAIN;
+}
+
 static void reads(uint8_t *packet, size_t n) {
+    uint32_t edition = some_edition();
     const uint8_t *p = lend(PACKET, below(2) ? LOW : HIGH, packet, n);
-    struct brothladder_chain c = brothladder_chain(p, n), w = plain_chain(packet, n);
+    struct brothladder_chain c = brothladder_chain(p, n, edition), w = plain_chain(packet, n, edition);
     same_answer("chain", &c, &w, sizeof c);
+    read_in_both(p, n);
     check(stands(PACKET, packet, n), "chain", "the packet is left alone");
     note(c.answer, c.refusal, 0);
     if (c.answer == BROTHLADDER_REFUSED) {
@@ -186,17 +234,18 @@ static void reads(uint8_t *packet, size_t n) {
         return;
     }
     deep[c.levels % 9]++;
-    by_itself(p, n, &c);
+    by_itself(p, n, &c, edition);
     /* Q8: the checksum field of the packet or of a message in it */
     size_t at = c.levels > 0 && below(2) && c.next_header[0] == 58 ? c.quote[0] + 40 : 0;
     packet[at + 2] = (uint8_t)chance();
     packet[at + 3] = (uint8_t)chance();
-    w = brothladder_chain(lend(PACKET, HIGH, packet, n), n);
+    w = brothladder_chain(lend(PACKET, HIGH, packet, n), n, edition);
     same_answer("another checksum, the same chain", &w, &c, sizeof c);
 }
 
 void quotes(void) {
     worked();
+    worked_in_editions();
     kinds();
     for (int i = 0; i < PACKETS; i++) {
         static uint8_t packet[2 * MOST];
@@ -207,5 +256,6 @@ void quotes(void) {
         reads(packet, n);
     }
     often("levels", deep, "0 1 2 3 4 5 6 7 8");
-    often("refusal of a quote", refusals, "1 4 5 6 7 15 16 17");
+    often("refusal of a quote", refusals, "1 4 5 6 7 15 16 17 18");
+    check(first_alone >= 500, "a chain in the first edition alone", "often enough");
 }

@@ -11,6 +11,7 @@ import tempfile
 root = os.path.dirname(os.path.dirname(os.path.dirname(os.path.abspath(__file__))))
 HEADER, PREFIX, DECODE, STEP, QUOTES, ANSWER, VERSION = "include/brothladder.h", *(
     f"crates/c_{c}/src/lib.rt" for c in ("prefix", "decode", "step", "quotes", "answer", "version"))
+EDITIONS = "crates/ndp_options/specs/Editions.antt"
 
 
 def copied(to):
@@ -19,7 +20,7 @@ def copied(to):
     for crate in sorted(os.listdir(root + "/crates")):
         if crate.startswith("c_"):
             shutil.copytree(f"{root}/crates/{crate}/src", f"{to}/crates/{crate}/src")
-        elif crate in ("refusal", "ndp_options", "icmpv6_type"):
+        elif crate in ("refusal", "ndp_options", "icmpv6_type", "router_preference"):
             shutil.copytree(f"{root}/crates/{crate}/specs", f"{to}/crates/{crate}/specs")
     os.makedirs(to + "/tools")
     for file in ("tools/header", "tools/rattle_source.py", "crates.txt"):
@@ -83,12 +84,17 @@ MISTAKES = [
     ("a refusal with another number", {HEADER: instead("ZERO_LENGTH 6u", "ZERO_LENGTH 5u")}, ["header"]),
     ("two refusals of a quote exchanged", {HEADER: exchanged("SHORT_QUOTE", "QUOTE_VERSION")}, ["header"]),
     ("the refusal of a far offset with another number", {HEADER: instead("FAR_OFFSET 22u", "FAR_OFFSET 15u")}, ["header"]),
-    ("offset and place exchanged in a prototype", {HEADER: instead("size_t offset, size_t at);", "size_t at, size_t offset);")}, ["header"]),
-    ("an argument left out of a prototype", {HEADER: instead("*option, size_t length, size_t offset);", "*option, size_t length);")}, ["header"]),
-    ("another version in the header", {HEADER: instead("VERSION 4u", "VERSION 5u")}, ["header"]),
-    ("another version in the source", {VERSION: instead("VERSION: u32 = 4", "VERSION: u32 = 5")}, ["header"]),
-    ("a version whose call keeps its name", {HEADER: instead("VERSION 4u", "VERSION 5u"), VERSION: instead("VERSION: u32 = 4", "VERSION: u32 = 5")}, ["header"]),
-    ("no reference to the version", {HEADER: instead("(void) = brothladder_version_4;", "(void) = 0;")}, ["header"]),
+    ("offset and place exchanged in a prototype", {HEADER: instead("size_t offset, size_t at, uint32_t edition);", "size_t at, size_t offset, uint32_t edition);")}, ["header"]),
+    ("high told as low", {HEADER: instead("PREFERENCE_HIGH 1u", "PREFERENCE_HIGH 3u")}, ["header"]),
+    ("an argument left out of a prototype", {HEADER: instead("read_prefix(const uint8_t *option, size_t length, size_t offset);", "read_prefix(const uint8_t *option, size_t length);")}, ["header"]),
+    ("another number for the first edition", {HEADER: instead("EDITION_FIRST 1u", "EDITION_FIRST 2u")}, ["header"]),
+    ("another number for the second edition", {EDITIONS: instead("editionOf n = cond (eqb n 2)", "editionOf n = cond (eqb n 3)")}, ["header"]),
+    ("every number but 1 the second edition", {EDITIONS: instead("(eqb n 2) Second First", "(eqb n 1) First Second")}, ["header"]),
+    ("no edition in a prototype", {HEADER: instead("size_t offset, size_t at, uint32_t edition);", "size_t offset, size_t at);")}, ["header"]),
+    ("another version in the header", {HEADER: instead("VERSION 5u", "VERSION 6u")}, ["header"]),
+    ("another version in the source", {VERSION: instead("VERSION: u32 = 5", "VERSION: u32 = 6")}, ["header"]),
+    ("a version whose call keeps its name", {HEADER: instead("VERSION 5u", "VERSION 6u"), VERSION: instead("VERSION: u32 = 5", "VERSION: u32 = 6")}, ["header"]),
+    ("no reference to the version", {HEADER: instead("(void) = brothladder_version_5;", "(void) = 0;")}, ["header"]),
     ("a member without its place", {"tests/c/layout.c": instead("AT(stepped, next, 72, 8);\n", "")}, ["header"]),
 ]
 failed = 0

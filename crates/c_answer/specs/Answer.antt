@@ -48,9 +48,23 @@ PREFIX = 11
 abbrev pub CHAIN : ℕ
 CHAIN = 12
 
+-- a route, or one whose preference says to ignore it; servers
+abbrev pub ROUTE : ℕ
+ROUTE = 13
+
+abbrev pub IGNORED : ℕ
+IGNORED = 14
+
+abbrev pub SERVERS : ℕ
+SERVERS = 15
+
+-- how far a router is preferred
+abbrev pub PREFERENCE : ℕ
+PREFERENCE = 16
+
 -- all of them
 abbrev pub answers : List ℕ
-answers = REFUSED ∷ KNOWN ∷ UNKNOWN ∷ VALID ∷ INVALID ∷ OPTION ∷ END ∷ STOPPED ∷ RECEIVED ∷ WRITTEN ∷ PREFIX ∷ CHAIN ∷ []
+answers = REFUSED ∷ KNOWN ∷ UNKNOWN ∷ VALID ∷ INVALID ∷ OPTION ∷ END ∷ STOPPED ∷ RECEIVED ∷ WRITTEN ∷ PREFIX ∷ CHAIN ∷ ROUTE ∷ IGNORED ∷ SERVERS ∷ PREFERENCE ∷ []
 
 -- each number of a list above the one before it, the first above n: then no two are alike, and none is n
 abbrev pub rising : ℕ → List ℕ → Bool

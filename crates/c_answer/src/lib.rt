@@ -24,3 +24,11 @@ pub const WRITTEN: u32 = 10;
 pub const PREFIX: u32 = 11;
 
 pub const CHAIN: u32 = 12;
+
+pub const ROUTE: u32 = 13;
+
+pub const IGNORED: u32 = 14;
+
+pub const SERVERS: u32 = 15;
+
+pub const PREFERENCE: u32 = 16;

@@ -10,6 +10,7 @@ use lib.Dec.{eqb, lit≤}
 use lib.ListN.{length, getD, drop, replicate, getD-replicate, List·getD-eq-default}
 use borrow.Author.Tests.{eqb-true}
 use Rattle.paper.specs.Each.{Each}
+use Rattle.ndp_options.specs.declared.Edition.{Edition}
 use Rattle.quotes.specs.declared.Chain as quotes
 use Rattle.quotes.specs.Chain.{chainOf}
 use Rattle.quotes.specs.Told.{chainWith, readOf}
@@ -45,15 +46,15 @@ narrow (bytes k l) h z b =
       kind = eight (f 0 .1) (f 1 .1) (f 2 .1) (f 3 .1) (f 4 .1) (f 5 .1) (f 6 .1) (f 7 .1);
     }
 
-pub beside : (packet : List ℕ) → Bytes packet → Narrow (readOf packet .chain)
+pub beside : (ed : Edition) (packet : List ℕ) → Bytes packet → Narrow (readOf ed packet .chain)
 unfolding readOf
-beside packet b = by (eqb (chainOf packet .number) 0) refl
+beside ed packet b = by (eqb (chainOf ed packet .number) 0) refl
   where
-    by : (t : Bool) → eqb (chainOf packet .number) 0 ≡ t → Narrow (chainWith (cond t (chainOf packet .values) []))
+    by : (t : Bool) → eqb (chainOf ed packet .number) 0 ≡ t → Narrow (chainWith (cond t (chainOf ed packet .values) []))
     by true e =
-        let z = eqb-true (chainOf packet .number) 0 e in
-        let n = counted (at-most-eight packet z) in
-        narrow (chain-bytes packet b z) (omega (arith, n .few, n .all)) (drop (length (chainOf packet .values)) (replicate 25 0)) (bytes-drop (length (chainOf packet .values)) (replicate 25 0) zeros)
+        let z = eqb-true (chainOf ed packet .number) 0 e in
+        let n = counted (at-most-eight ed packet z) in
+        narrow (chain-bytes ed packet b z) (omega (arith, n .few, n .all)) (drop (length (chainOf ed packet .values)) (replicate 25 0)) (bytes-drop (length (chainOf ed packet .values)) (replicate 25 0) zeros)
     by false e =
         let d : (i : ℕ) → Byte (getD (replicate 25 0) i 0) = zeros in
         record {

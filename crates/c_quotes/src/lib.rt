@@ -2,8 +2,10 @@
 ghost use mathlib.Core.Path.{_≡_};
 ghost use Prim.Native.Nat.{_<_};
 ghost use Rattle.paper.specs.Each.{Each};
+ghost use Rattle.ndp_options.specs.Editions.{editionOf};
 ghost use Rattle.quotes.specs.Told.{readOf};
 ghost use Rattle.c_quotes.specs.Columns.{Byte, column, Narrow, chainWith, chainFor};
+use ndp_options::Edition;
 use quotes::ChainAnswer;
 
 // Of level i, counted from 0: where its quote begins in the packet, its next header, and the kind of its message. 0 behind the last level.
@@ -54,10 +56,10 @@ fn chain_of(answer: u32, refusal: u32, value: [u64; 5], c: quotes::Chain) -> Cha
 }
 
 #[no_mangle]
-pub extern "C" fn brothladder_chain(packet: &[u8]) -> Chain
-    ensures { λ r. ⌜ r ≡ chainFor (readOf (now (packet .entry))) ⌝ }
+pub extern "C" fn brothladder_chain(packet: &[u8], edition: u32) -> Chain
+    ensures { λ r. ⌜ r ≡ chainFor (readOf (editionOf edition) (now (packet .entry))) ⌝ }
 {
-    let read = quotes::read_chain(packet);
+    let read = quotes::read_chain(packet, Edition::of(edition));
     let verdict = read.answer;
     let chain = read.chain;
     // Each arm returns: an answer is then written straight to where it goes (docs/BENCHMARKS.md).

@@ -1,7 +1,9 @@
-// The receive check. If a packet passes it, the answer says where its options are.
+// The receive check. If a packet passes it, the answer says where its options are, which are whole in the edition that was asked.
 ghost use mathlib.Core.Path.{_≡_};
+ghost use Rattle.ndp_options.specs.Editions.{editionOf};
 ghost use Rattle.receive.specs.Receive.{receiveOf};
 ghost use Rattle.c_receive.specs.Received.{receivedFor};
+use ndp_options::Edition;
 use receive::receive_check;
 
 #[repr(C)]
@@ -19,11 +21,12 @@ pub extern "C" fn brothladder_receive(
     hop_limit: u8,
     source: &[u8; 16],
     destination: &[u8; 16],
+    edition: u32,
 ) -> Received
-    ensures { λ r. ⌜ r ≡ receivedFor (now (packet .entry)) (receiveOf «hop_limit» (now (source .entry)) (now (destination .entry)) (now (packet .entry))) ⌝ }
+    ensures { λ r. ⌜ r ≡ receivedFor (now (packet .entry)) (receiveOf (editionOf edition) «hop_limit» (now (source .entry)) (now (destination .entry)) (now (packet .entry))) ⌝ }
 {
     // Each arm returns: an answer is then written straight to where it goes (docs/BENCHMARKS.md).
-    match receive_check(packet, hop_limit, source, destination) {
+    match receive_check(packet, hop_limit, source, destination, Edition::of(edition)) {
         receive::Received::Accepted(message) => {
             let at = message.options_at;
             return Received {

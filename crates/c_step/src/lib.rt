@@ -1,9 +1,12 @@
-// A step of the option walk. The caller passes to each step the `next` of the step before it, and the same offset: where the options begin in the packet.
+// A step of the option walk. The caller passes to each step the `next` of the step before it, the same offset, where the options begin in the packet,
+// and the same edition.
 ghost use mathlib.Core.Path.{_≡_};
+ghost use Rattle.ndp_options.specs.Editions.{editionOf};
 ghost use Rattle.ndp_options.specs.Walk.{stepOf};
 ghost use Rattle.ndp_options.specs.Told.{optionKindNumber};
 ghost use Rattle.c_step.specs.Stepped.{bare, steppedFor};
 use ndp_options::Cursor;
+use ndp_options::Edition;
 use ndp_options::NdpOptionKind;
 use ndp_options::Step;
 
@@ -31,6 +34,8 @@ fn kind_number(kind: NdpOptionKind) -> u32
         NdpOptionKind::PrefixInformation => 3,
         NdpOptionKind::RedirectedHeader => 4,
         NdpOptionKind::Mtu => 5,
+        NdpOptionKind::RouteInformation => 24,
+        NdpOptionKind::RecursiveDnsServers => 25,
     }
 }
 
@@ -52,12 +57,17 @@ fn bare(answer: u32, refusal: u32, value: [u64; 5], next: usize) -> Stepped
 }
 
 #[no_mangle]
-pub extern "C" fn brothladder_step(options: &[u8], offset: usize, at: usize) -> Stepped
-    ensures { λ r. ⌜ r ≡ steppedFor at (stepOf offset (now (options .entry)) at) ⌝ }
+pub extern "C" fn brothladder_step(
+    options: &[u8],
+    offset: usize,
+    at: usize,
+    edition: u32,
+) -> Stepped
+    ensures { λ r. ⌜ r ≡ steppedFor at (stepOf (editionOf edition) offset (now (options .entry)) at) ⌝ }
 {
     let c = Cursor { at };
     // Each arm returns: an answer is then written straight to where it goes (docs/BENCHMARKS.md).
-    match c.step(options, offset) {
+    match c.step(options, offset, Edition::of(edition)) {
         Step::Handed(option, next) => {
             let kind = option.kind;
             let id = option.option_type;

@@ -9,4 +9,4 @@ use Rattle.c_write_keeping.proofs.brothladder_write_keeping as brothlad
 
 pub brothladder-write-keeping-unique : Only brothladder-write-keeping.ended (λ M 𝓤. brothladder-write-keeping.clauses 𝓤)
 brothladder-write-keeping-unique M 𝓤 H A m f κs a g x y v w =
-    two 𝓤 (λ p out q out′. (p ∙ sym q, ap (λ (l : List ℕ). (tt, (tt, (tt, (tt, (tt, (tt, (l, tt)))))))) (out ∙ sym out′)))
+    two 𝓤 (λ p out q out′. (p ∙ sym q, ap (λ (l : List ℕ). (tt, (tt, (tt, (tt, (tt, (tt, (l, (tt, tt))))))))) (out ∙ sym out′)))

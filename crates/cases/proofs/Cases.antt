@@ -10,6 +10,7 @@ use Rattle.ndp_walk.specs.Judge.{judge}
 use Rattle.ndp_walk.specs.Walk.{walkOn, walkFrom}
 use Rattle.ndp_walk.specs.Step.{stepBy}
 use Rattle.ndp_options.specs.Rule.{rule}
+use Rattle.ndp_options.specs.Editions.{ruleBy}
 use Rattle.packet_place.specs.Place.{placed}
 use Rattle.ndp_option_read.specs.Rule.{exactlyOf}
 use Rattle.prefix_information.specs.Prefix.{prefixOf}
@@ -19,5 +20,5 @@ use Rattle.icmpv6_payload_slice.specs.Dispatch.{payloadOf}
 use Rattle.cases.specs.Table.{table, Claim}
 
 pub hold : Each Claim table
-unfolding known fixedLen sized typeOf decodeOf judge walkOn walkFrom stepBy rule exactlyOf placed prefixOf _⊕_ sumOf verdictOf payloadOf
+unfolding known fixedLen sized typeOf decodeOf judge walkOn walkFrom stepBy ruleBy rule exactlyOf placed prefixOf _⊕_ sumOf verdictOf payloadOf
 hold = (refl, (refl, (refl, (refl, (refl, (refl, (refl, (refl, (refl, (refl, (refl, (refl, (refl, (refl, (refl, (refl, (refl, (refl, (refl, (refl, (refl, (refl, (refl, (refl, (refl, (refl, (refl, tt)))))))))))))))))))))))))))

@@ -20,8 +20,8 @@ hold = (
   (
     λ source destination head payload n. rw n,
     (
-      λ payload out n room. rw (drop-length payload, n) (fits 65535 out 0 (omega arith)),
-      (λ payload out n room. rw n, tt),
+      λ e payload out n room. rw (drop-length payload, n) (fits 65535 out 0 (omega arith)),
+      (λ e payload out n room. rw n, tt),
     ),
   ),
 )

@@ -15,6 +15,7 @@ use Rattle.ndp_walk.specs.Judge.{judge}
 use Rattle.ndp_walk.specs.Walk.{Ending, Clean, RefusedAt, Walk, clean, walkOn, walkFrom}
 use Rattle.ndp_walk.specs.Step.{Told, stopped, stepBy}
 use Rattle.ndp_options.specs.Rule.{rule}
+use Rattle.ndp_options.specs.Editions.{ruleBy}
 use Rattle.packet_place.specs.Place.{placed}
 use Rattle.ndp_option_read.specs.Rule.{exactlyOf}
 use Rattle.prefix_information.specs.Prefix.{prefixOf, noInformation}
@@ -42,7 +43,7 @@ number Clean = 0
 number (RefusedAt at why) = why .number
 
 pub not-met : Each (λ (c : Case). Claim c → ⊥) wrong
-unfolding known fixedLen sized typeOf decodeOf judge walkOn walkFrom stepBy rule exactlyOf placed prefixOf _⊕_ sumOf verdictOf payloadOf
+unfolding known fixedLen sized typeOf decodeOf judge walkOn walkFrom stepBy ruleBy rule exactlyOf placed prefixOf _⊕_ sumOf verdictOf payloadOf
 not-met = (
   λ e. let z : _≡_ {A = ℕ} 7 8 = ap (value 1) e in omega arith,
   (

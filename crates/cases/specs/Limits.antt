@@ -10,6 +10,7 @@ use lib.ListN.{length}
 use Rattle.paper.specs.Paper.{Paper, refuses, gives}
 use Rattle.icmpv6_type.specs.declared.Icmpv6Type.the-variants.{Unknown}
 use Rattle.checksum.specs.Icmpv6.{computedOf}
+use Rattle.ndp_options.specs.declared.Edition.{Edition}
 use Rattle.writer.specs.Write.{writeOf}
 
 -- the number and values of a refusal; none of an answer that refuses nothing
@@ -23,7 +24,7 @@ pub data Case : Type 0 where
 
 abbrev pub Claim : Case → Type 0
 Claim (sums n answer) = (source destination head payload : List ℕ) → length payload ≡ n → refusalIn (computedOf source destination head payload) ≡ answer
-Claim (writes n answer) = (payload out : List ℕ) → length payload ≡ n → 8 + n ≤ length out → writeOf (Unknown 200 0 0) payload out ≡ answer
+Claim (writes n answer) = (e : Edition) (payload out : List ℕ) → length payload ≡ n → 8 + n ≤ length out → writeOf e (Unknown 200 0 0) payload out ≡ answer
 
 abbrev pub table : List Case
 table =

@@ -1,4 +1,5 @@
--- docs/RULES.md P1 to P14, the worked cases: what each call answers, as one table over the definitions that the calls promise.
+-- docs/RULES.md P1 to P14, the worked cases: what each call answers, as one table over the definitions that the calls promise. Walks and
+-- steps are those of the first edition.
 -- Assumes nothing.
 use Prim.Native.Nat.{ℕ}
 use mathlib.Core.Path.{_≡_}
@@ -10,6 +11,7 @@ use Rattle.icmpv6.specs.Head.{decodeOf}
 use Rattle.ndp_walk.specs.Walk.{Walk, clean, refused}
 use Rattle.ndp_walk.specs.Step.{Told, told, ended, stopped}
 use Rattle.ndp_options.specs.Walk.{walkFrom, stepOf}
+use Rattle.ndp_options.specs.declared.Edition.the-variants.{First}
 use Rattle.prefix_information.specs.declared.PrefixInformation.{PrefixInformation}
 use Rattle.prefix_information.specs.Prefix.{prefixOf, informationAt, bytesOf, noInformation}
 use Rattle.prefix_information.specs.Prefix as prefix
@@ -29,8 +31,8 @@ pub data Case : Type 0 where
 
 abbrev pub Claim : Case → Type 0
 Claim (decodes packet answer) = decodeOf packet ≡ answer
-Claim (walks offset options answer) = walkFrom offset options ≡ answer
-Claim (steps offset options at answer) = stepOf offset options at ≡ answer
+Claim (walks offset options answer) = walkFrom First offset options ≡ answer
+Claim (steps offset options at answer) = stepOf First offset options at ≡ answer
 Claim (reads offset option answer information) = prefixOf offset option ≡ prefix.toldWith answer information
 Claim (rewrites option bytes) = bytesOf (informationAt option) ≡ bytes
 Claim (validates source destination packet answer) = verdictOf source destination packet ≡ answer

@@ -32,6 +32,7 @@ use ndp_option::link_layer_address_option::LinkLayerAddressOption;
 use ndp_option::unknown_option;
 use ndp_option_read::NdpOptionRead;
 use ndp_options::Cursor;
+use ndp_options::Edition;
 use ndp_options::Step;
 use ndp_walker::Walker;
 use option_writer::write_link_layer_address;
@@ -96,6 +97,7 @@ fn walker_rest<'a>(options: &'a [u8], offset: usize, at: usize) -> &'a [u8]
     ndp_walker::rest(Walker {
         options,
         offset,
+        edition: 1,
         at,
     })
 }
@@ -116,7 +118,7 @@ fn has_options(packet: &[u8], message: Icmpv6PayloadSlice) -> bool {
     let offset = message.options_at;
     let start = Cursor { at: offset };
     let options = start.rest(packet);
-    match ndp_walker::first_step(options, offset) {
+    match ndp_walker::first_step(options, offset, 1) {
         Step::Handed(option, next) => {
             let place = option.place;
             let bytes = option.bytes(options);
@@ -252,9 +254,16 @@ fn is_passed_on(source: &[u8; 16], destination: &[u8; 16], payload: &[u8], packe
         return false;
     };
     let mut out = [0u8; 128];
-    let by_default = write_packet(read, source, destination, payload, &mut out);
+    let by_default = write_packet(read, source, destination, payload, &mut out, Edition::First);
     let mut second = [0u8; 128];
-    let kept = write_packet_keeping(read, source, destination, payload, &mut second);
+    let kept = write_packet_keeping(
+        read,
+        source,
+        destination,
+        payload,
+        &mut second,
+        Edition::First,
+    );
     is_again(by_default, &out, packet) && is_again(kept, &second, packet)
 }
 
@@ -270,7 +279,14 @@ fn is_cleared(
         return false;
     };
     let mut out = [0u8; 128];
-    let cleared = write_packet_clearing(header, source, destination, payload, &mut out);
+    let cleared = write_packet_clearing(
+        header,
+        source,
+        destination,
+        payload,
+        &mut out,
+        Edition::First,
+    );
     is_again(cleared, &out, made)
 }
 
@@ -288,7 +304,7 @@ fn is_told_apart(
         bytes5to8: 4294967295,
     };
     let mut out = [0u8; 128];
-    match write_packet(full, source, destination, payload, &mut out) {
+    match write_packet(full, source, destination, payload, &mut out, Edition::First) {
         Written::To(n) => {
             let packet = part(&out, 0, n);
             is_as_updated(full, source, destination, payload, packet)
@@ -316,7 +332,14 @@ fn put_record(source: &[u8; 16], destination: &[u8; 16], packet: &[u8]) {
 fn send(icmp_type: Icmpv6Type, source: &[u8; 16], destination: &[u8; 16], payload: &[u8]) {
     let mut packet = [0u8; 128];
     let header = Icmpv6Header::new(icmp_type);
-    match write_packet_clearing(header, source, destination, payload, &mut packet) {
+    match write_packet_clearing(
+        header,
+        source,
+        destination,
+        payload,
+        &mut packet,
+        Edition::First,
+    ) {
         Written::To(n) => {
             let sent = part(&packet, 0, n);
             if !is_as_made(icmp_type, source, destination, payload, sent) {
@@ -341,7 +364,7 @@ fn send(icmp_type: Icmpv6Type, source: &[u8; 16], destination: &[u8; 16], payloa
 }
 
 fn receive(packet: &[u8], source: &[u8; 16], destination: &[u8; 16]) {
-    match receive_check(packet, 255, source, destination) {
+    match receive_check(packet, 255, source, destination, Edition::First) {
         Received::Refused(_) => say(b"not received\n"),
         Received::Accepted(message) => {
             if has_options(packet, message) {

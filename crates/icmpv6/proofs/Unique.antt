@@ -4,6 +4,7 @@ use mathlib.Core.Path.{refl, sym, _∙_}
 use denote.Ref.{now}
 use Rattle.paper.specs.Only.{Only, OnlyBy}
 use Rattle.paper.proofs.Facts.{one}
+use Rattle.router_preference.proofs.Paper.{preference-lossless}
 use Rattle.icmpv6.proofs.Paper.{header-lossless, read-lossless, parts-lossless}
 use Rattle.icmpv6.proofs.icmpv6_header.Icmpv6Header.new as new
 use Rattle.icmpv6.proofs.icmpv6_header.Icmpv6Header.from_slice as from-slice
@@ -11,6 +12,7 @@ use Rattle.icmpv6.proofs.icmpv6_header.Icmpv6Header.header_len as heade
 use Rattle.icmpv6.proofs.icmpv6_header.Icmpv6Header.to_bytes as to-bytes
 use Rattle.icmpv6.proofs.icmpv6_header.Icmpv6Header.to_bytes_clearing as to-bytes-clearing
 use Rattle.icmpv6.proofs.icmpv6_header.Icmpv6Header.to_bytes_keeping as to-bytes-keeping
+use Rattle.icmpv6.proofs.icmpv6_header.Icmpv6Header.router_preference as router-preference
 use Rattle.icmpv6.proofs.icmpv6_slice.head_parts as head-parts
 use Rattle.icmpv6.proofs.icmpv6_slice.payload as payload
 
@@ -31,6 +33,9 @@ to-bytes-clearing-unique M 𝓤 H A m f κs a g x y v w = one 𝓤 (λ p q. (p �
 
 pub to-bytes-keeping-unique : Only to-bytes-keeping.ended (λ M 𝓤. to-bytes-keeping.clauses 𝓤)
 to-bytes-keeping-unique M 𝓤 H A m f κs a g x y v w = one 𝓤 (λ p q. (p ∙ sym q, refl))
+
+pub router-preference-unique : Only router-preference.ended (λ M 𝓤. router-preference.clauses 𝓤)
+router-preference-unique M 𝓤 H A m f κs a g x y v w = one 𝓤 (λ p q. (preference-lossless x y (p ∙ sym q), refl))
 
 pub head-parts-unique : Only head-parts.ended (λ M 𝓤. head-parts.clauses 𝓤)
 head-parts-unique M 𝓤 H A m f κs a g x y v w = one 𝓤 (λ p q. (parts-lossless x y (p ∙ sym q), refl))

@@ -3,10 +3,14 @@ ghost use mathlib.Core.Path.{_≡_};
 ghost use mathlib.Core.List.{_∷_};
 ghost use lib.ListN.{length};
 ghost use Rattle.icmpv6_type.specs.Value.{typeTold};
+ghost use Rattle.router_preference.specs.Preference.{preferenceNumber};
+ghost use Rattle.icmpv6.specs.Preference.{preferenceIn};
 ghost use Rattle.icmpv6.specs.Head.{Clearing, Keeping, byDefault, headerTold, headerReadTold, decodeOf, encodeWith, encodeBy};
 use icmpv6_type::Icmpv6Type;
+use message_table::types;
 use packet_length::PacketLength;
 use refusal::Refusal;
+use router_preference::RouterPreference;
 
 // Of `bytes5to8`, bytes 4 to 7 as one number, high byte first, the reserved bits alone count; 0 in a header that was made and not read.
 pub struct Icmpv6Header {
@@ -99,5 +103,18 @@ impl Icmpv6Header {
         ensures { λ r. ⌜ r ≡ encodeBy byDefault self ⌝ }
     {
         self.to_bytes_keeping()
+    }
+
+    // How far a router advertisement asks that its router be preferred (RFC 4191, section 2.2): two of the bits that it keeps. Medium of a record
+    // that was made, and of any other kind. A router lifetime of 0, for which no preference counts, is not looked at.
+    pub fn router_preference(self) -> RouterPreference
+        ensures { λ r. ⌜ preferenceNumber r ≡ preferenceIn self ⌝ }
+    {
+        let t = self.icmp_type;
+        if t.kind_u8() == types::TYPE_ROUTER_ADVERTISEMENT {
+            let kept = wire::u32_to_be(self.bytes5to8);
+            return RouterPreference::of_flags(kept[1]);
+        }
+        RouterPreference::Medium
     }
 }

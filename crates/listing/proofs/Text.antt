@@ -26,6 +26,7 @@ use Rattle.dump_lines.specs.Line.{text}
 use Rattle.icmpv6_payload_slice.proofs.Laws.{whole, other-pair}
 use Rattle.icmpv6_payload_slice.proofs.Opened.{opened, short-refused}
 use Rattle.ndp_options.specs.Walk.{walkFrom}
+use Rattle.ndp_options.specs.declared.Edition.the-variants.{First}
 use Rattle.ndp_walk.specs.Walk.{Item, Walk, then, clean, refused}
 use Rattle.dump_lines.specs.Text.{optLine, endLine, refusedAtLine, refusedLine}
 use Rattle.listing.specs.Packet.{headText, itemsText, endingText, walkText, optionsText, packetText}
@@ -55,7 +56,7 @@ behind-head k n h = by (isNdp k)
 
 -- the line of a head
 pub head-line : (hop : ℕ) (source destination p : List ℕ) {kind reason : ℕ} {ok : Bool} → kind ≡ kindAt p → ok ≡ isSound source destination p
-    → reason ≡ reasonOf hop source destination p
+    → reason ≡ reasonOf First hop source destination p
     → headText hop source destination p ≡ text (Head kind (getD p 1 0) (word16At p 2) ok (length p) reason)
 unfolding headText
 head-line hop source destination p k o r = rw (k, o, r)
@@ -86,7 +87,7 @@ module _ (hop : ℕ) (source destination p : List ℕ) (x : PayloadRead) (e : pa
 
   pub shown : {m : Icmpv6PayloadSlice} → x ≡ Payload m →
       packetText hop source destination p
-      ≡ headText hop source destination p ++ cond (isNdp (payloadKindNumber (m .kind))) (walkText 0 (walkFrom (m .«options_at») (drop (m .«options_at») p))) []
+      ≡ headText hop source destination p ++ cond (isNdp (payloadKindNumber (m .kind))) (walkText 0 (walkFrom First (m .«options_at») (drop (m .«options_at») p))) []
   unfolding packetText optionsText
   shown {m} arm =
       let b = has-head arm in

@@ -1,4 +1,5 @@
--- docs/RULES.md D2 to D6, D9: the text of one record, over the dispatch, the verdict, the receive check and the option walk.
+-- docs/RULES.md D2 to D6, D9: the text of one record, over the dispatch, the verdict, and the receive check and the
+-- option walk of the first edition.
 -- Assumes nothing.
 use Prim.Native.Nat.{ℕ, _+_, _≤_}
 use mathlib.Core.Path.{_≡_}
@@ -14,6 +15,7 @@ use Rattle.icmpv6_payload_slice.specs.Dispatch.{optionsAt, kindAt, byBytes}
 use Rattle.receive.specs.Receive.{packetOptions, isSound, reasonOf}
 use Rattle.ndp_walk.specs.Walk.{Item, Ending, Clean, RefusedAt, Walk}
 use Rattle.ndp_options.specs.Walk.{walkFrom}
+use Rattle.ndp_options.specs.declared.Edition.the-variants.{First}
 use Rattle.output.specs.Output.{roomFor, leaves}
 use Rattle.capture.specs.Record.{recorded}
 use Rattle.dump_lines.specs.Line.{wordFor, okWord}
@@ -22,7 +24,7 @@ use Rattle.dump_lines.specs.Text.{recordLine, headLine, optLine, endLine, refus
 -- the kind, the code, the checksum field and the verdict on it, the length, and the reason of the receive check
 unfoldable pub headText : ℕ → List ℕ → List ℕ → List ℕ → List ℕ
 headText hop source destination p =
-    headLine (wordFor (kindAt p)) (getD p 1 0) (word16At p 2) (okWord (isSound source destination p)) (length p) (reasonOf hop source destination p)
+    headLine (wordFor (kindAt p)) (getD p 1 0) (word16At p 2) (okWord (isSound source destination p)) (length p) (reasonOf First hop source destination p)
 
 -- a line for each option
 unfoldable pub itemsText : List Item → List ℕ
@@ -42,7 +44,7 @@ walkText n w = itemsText (w .items) ++ endingText (n + length (w .items)) (w .en
 unfoldable pub optionsText : List ℕ → List ℕ
 optionsText p =
     cond (eqb (byBytes p .number) 4) (refusedLine 4)
-    (cond (isNdp (kindAt p)) (walkText 0 (walkFrom (optionsAt 8 (kindAt p) (length p)) (packetOptions p))) [])
+    (cond (isNdp (kindAt p)) (walkText 0 (walkFrom First (optionsAt 8 (kindAt p) (length p)) (packetOptions p))) [])
 
 -- a packet whose length is refused prints its refusal only
 unfoldable pub packetText : ℕ → List ℕ → List ℕ → List ℕ → List ℕ

@@ -7,12 +7,14 @@ ghost use lib.ListN.{length, getD, drop};
 ghost use Rattle.wire.specs.Wire.{word16At};
 ghost use Rattle.output.specs.Output.{writtenTold, Wrote};
 ghost use Rattle.ndp_options.specs.Walk.{walkFrom};
+ghost use Rattle.ndp_options.specs.declared.Edition.the-variants.{First};
 ghost use Rattle.dump_lines.specs.Line.{text};
 ghost use Rattle.message_table.specs.Table.{isNdp};
 ghost use Rattle.listing.specs.Packet.{walkText, packetText, recordText, Puts, putLeaves};
 use dump_lines::Line;
 use icmpv6_payload_slice::PayloadRead;
 use ndp_options::Cursor;
+use ndp_options::Edition;
 use ndp_options::Step;
 use output::Written;
 use refusal::Refusal;
@@ -95,7 +97,7 @@ fn put_packet(
     ensures wrote { λ r. ⌜ Wrote (now (out .entry)) at (packetText «hop_limit» (now (source .entry)) (now (destination .entry)) (now (packet .entry))) (now (out .exit)) r ⌝ }
     ensures short { λ r. ⌜ r ≤ at + 32896 ⌝ }
 {
-    let judged = receive::judge(packet, hop_limit, source, destination);
+    let judged = receive::judge(packet, hop_limit, source, destination, Edition::First);
     let opened = judged.opened;
     match opened {
         PayloadRead::Payload(message) => {
@@ -136,7 +138,7 @@ fn put_head(out: &mut [u8], at: usize, kind: u8, packet: &[u8], ok: bool, reason
 // The option lines of rs to redirect, the messages of Neighbor Discovery, from their place on.
 fn put_options(out: &mut [u8], at: usize, kind: u8, packet: &[u8], from: usize) -> usize
     requires { ⌜ (at + 32768 ≤ length (now out)) × (8 ≤ from) × (from ≤ length (now packet)) × (length (now packet) ≤ 2048) ⌝ }
-    ensures wrote { λ r. ⌜ Wrote (now (out .entry)) at (cond (isNdp kind) (walkText 0 (walkFrom from (drop from (now (packet .entry))))) []) (now (out .exit)) r ⌝ }
+    ensures wrote { λ r. ⌜ Wrote (now (out .entry)) at (cond (isNdp kind) (walkText 0 (walkFrom First from (drop from (now (packet .entry))))) []) (now (out .exit)) r ⌝ }
     ensures short { λ r. ⌜ r ≤ at + 32768 ⌝ }
 {
     if message_table::is_ndp(kind) {
@@ -148,7 +150,7 @@ fn put_options(out: &mut [u8], at: usize, kind: u8, packet: &[u8], from: usize) 
 // A line for each option, and the ending of the walk. The first byte of the options is at an offset of the packet.
 fn put_walk(out: &mut [u8], at: usize, options: &[u8], offset: usize) -> usize
     requires { ⌜ (at + 128 + 16 * length (now options) ≤ length (now out)) × (offset + length (now options) ≤ 2048) ⌝ }
-    ensures wrote { λ r. ⌜ Wrote (now (out .entry)) at (walkText 0 (walkFrom offset (now (options .entry)))) (now (out .exit)) r ⌝ }
+    ensures wrote { λ r. ⌜ Wrote (now (out .entry)) at (walkText 0 (walkFrom First offset (now (options .entry)))) (now (out .exit)) r ⌝ }
     ensures short { λ r. ⌜ r ≤ at + 128 + 16 * length (now (options .entry)) ⌝ }
 {
     let mut c = Cursor::new();
@@ -156,7 +158,7 @@ fn put_walk(out: &mut [u8], at: usize, options: &[u8], offset: usize) -> usize
     let mut put = at;
     loop {
         let here = c.at;
-        match c.step(options, offset) {
+        match c.step(options, offset, Edition::First) {
             Step::Handed(option, next) => {
                 let id = option.option_type;
                 let line = Line::Opt {

@@ -6,6 +6,7 @@ ghost use lib.Dec.{eqb};
 ghost use Rattle.ndp_option_list.specs.Whole.{countOf, occursOf, firstOf, tallyOf};
 ghost use Rattle.ndp_option_list.specs.Told.{countTold, occursTold, firstTold, tallyTold};
 use ndp_options::Cursor;
+use ndp_options::Edition;
 use ndp_options::Step;
 use refusal::NdpOptionType;
 use refusal::Refusal;
@@ -55,14 +56,14 @@ fn first_by(earlier: Spot, id: NdpOptionType, option: Spot, wanted: NdpOptionTyp
 }
 
 // The whole walk, once.
-fn walk_all(options: &[u8], offset: usize, wanted: NdpOptionType) -> Tally
-    ensures { λ r. ⌜ tallyTold r ≡ tallyOf (wanted .0) offset (now (options .entry)) ⌝ }
+fn walk_all(options: &[u8], offset: usize, wanted: NdpOptionType, edition: Edition) -> Tally
+    ensures { λ r. ⌜ tallyTold r ≡ tallyOf edition (wanted .0) offset (now (options .entry)) ⌝ }
 {
     let mut c = Cursor::new();
     let mut n: usize = 0;
     let mut found = Spot { place: 0, len: 0 };
     loop {
-        match c.step(options, offset) {
+        match c.step(options, offset, edition) {
             Step::Handed(option, next) => {
                 n += 1;
                 let here = Spot {
@@ -81,20 +82,20 @@ fn walk_all(options: &[u8], offset: usize, wanted: NdpOptionType) -> Tally
 }
 
 // How many options the list has, or the refusal. The first byte of the options is at an offset of the packet.
-pub fn count(options: &[u8], offset: usize) -> Counted
-    ensures { λ r. ⌜ countTold r ≡ countOf offset (now (options .entry)) ⌝ }
+pub fn count(options: &[u8], offset: usize, edition: Edition) -> Counted
+    ensures { λ r. ⌜ countTold r ≡ countOf edition offset (now (options .entry)) ⌝ }
 {
-    match walk_all(options, offset, NdpOptionType(0)) {
+    match walk_all(options, offset, NdpOptionType(0), edition) {
         Tally::All(n, _) => Counted::All(n),
         Tally::Refused(why) => Counted::Refused(why),
     }
 }
 
 // Whether the list has an option of the type, or the refusal: of a refused list it is not known.
-pub fn has_type(options: &[u8], offset: usize, wanted: NdpOptionType) -> Occurs
-    ensures { λ r. ⌜ occursTold r ≡ occursOf (wanted .0) offset (now (options .entry)) ⌝ }
+pub fn has_type(options: &[u8], offset: usize, wanted: NdpOptionType, edition: Edition) -> Occurs
+    ensures { λ r. ⌜ occursTold r ≡ occursOf edition (wanted .0) offset (now (options .entry)) ⌝ }
 {
-    match first_of_type(options, offset, wanted) {
+    match first_of_type(options, offset, wanted, edition) {
         First::At(_, _) => Occurs::Yes,
         First::Nowhere => Occurs::No,
         First::Refused(why) => Occurs::Refused(why),
@@ -102,10 +103,15 @@ pub fn has_type(options: &[u8], offset: usize, wanted: NdpOptionType) -> Occurs
 }
 
 // The first option of the type, or the refusal: of a refused list none counts, not even one that stands before the refusal.
-pub fn first_of_type(options: &[u8], offset: usize, wanted: NdpOptionType) -> First
-    ensures { λ r. ⌜ firstTold r ≡ firstOf (wanted .0) offset (now (options .entry)) ⌝ }
+pub fn first_of_type(
+    options: &[u8],
+    offset: usize,
+    wanted: NdpOptionType,
+    edition: Edition,
+) -> First
+    ensures { λ r. ⌜ firstTold r ≡ firstOf edition (wanted .0) offset (now (options .entry)) ⌝ }
 {
-    match walk_all(options, offset, wanted) {
+    match walk_all(options, offset, wanted, edition) {
         Tally::All(_, found) => {
             if found.len == 0 {
                 First::Nowhere

@@ -11,7 +11,9 @@ use Rattle.ndp_walk.specs.Walk.{Walk, item, then, clean, refused, walkOn}
 use Rattle.ndp_walk.specs.Walk as by
 use Rattle.ndp_walk.specs.Step.{Told, ended, stopped, handed, told, stepBy}
 use Rattle.ndp_options.specs.Rule.{rule}
+use Rattle.ndp_options.specs.Editions.{ruleBy}
 use Rattle.ndp_options.specs.Walk.{walkFrom, stepOf}
+use Rattle.ndp_options.specs.declared.Edition.the-variants.{First}
 
 -- the whole walk; and the first step, with the step at the place that it hands on
 pub record Run : Type 0 where
@@ -20,7 +22,7 @@ pub record Run : Type 0 where
   pub second : Told
 
 abbrev pub run : ℕ → List ℕ → Run
-run o s = record { whole = walkFrom o s; first = stepOf o s 0; second = stepOf o s (stepOf o s 0 .place) }
+run o s = record { whole = walkFrom First o s; first = stepOf First o s 0; second = stepOf First o s (stepOf First o s 0 .place) }
 
 pub record Case : Type 0 where
   pub offset : ℕ
@@ -60,15 +62,15 @@ cases =
 
 -- each case's bytes come to what it says
 pub hold : map (λ (c : Case). run (c .offset) (c .bytes)) cases ≡ map (λ (c : Case). c .comes-to) cases
-unfolding cases case at-once judge rule walkOn by.walkFrom stepBy
+unfolding cases case at-once judge ruleBy rule walkOn by.walkFrom stepBy
 hold = refl
 
 -- one place further on: 22, at the first byte and at the end, and Stopped behind it
-pub too-far : map (stepOf 4294967288 (1 ∷ 1 ∷ zeros 6)) (0 ∷ 8 ∷ 9 ∷ []) ≡ told (refuses 22 []) 9 ∷ told (refuses 22 []) 9 ∷ stopped ∷ []
-unfolding judge rule stepBy
+pub too-far : map (stepOf First 4294967288 (1 ∷ 1 ∷ zeros 6)) (0 ∷ 8 ∷ 9 ∷ []) ≡ told (refuses 22 []) 9 ∷ told (refuses 22 []) 9 ∷ stopped ∷ []
+unfolding judge ruleBy rule stepBy
 too-far = refl
 
 -- no bytes at 4,294,967,296, and one byte at the last offset that 64 bits hold
-pub far-off : (stepOf 4294967296 [] 0 ≡ told (refuses 22 []) 1) × (stepOf 18446744073709551615 (1 ∷ []) 0 ≡ told (refuses 22 []) 2)
-unfolding judge rule stepBy
+pub far-off : (stepOf First 4294967296 [] 0 ≡ told (refuses 22 []) 1) × (stepOf First 18446744073709551615 (1 ∷ []) 0 ≡ told (refuses 22 []) 2)
+unfolding judge ruleBy rule stepBy
 far-off = (refl, refl)

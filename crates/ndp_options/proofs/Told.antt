@@ -11,7 +11,7 @@ use Rattle.refusal.proofs.Paper.{refusalOf, refusal-back, refusal-numbered}
 use Rattle.ndp_walk.specs.Step.{Told}
 use Rattle.ndp_options.specs.Told.{optionKindNumber, stepTold}
 use Rattle.ndp_options.specs.declared.NdpOptionKind.{NdpOptionKind}
-use Rattle.ndp_options.specs.declared.NdpOptionKind.the-variants.{Unknown, SourceLinkLayerAddress, TargetLinkLayerAddress, PrefixInformation, RedirectedHeader, Mtu}
+use Rattle.ndp_options.specs.declared.NdpOptionKind.the-variants.{Unknown, SourceLinkLayerAddress, TargetLinkLayerAddress, PrefixInformation, RedirectedHeader, Mtu, RouteInformation, RecursiveDnsServers}
 use Rattle.ndp_options.specs.declared.Step.{Step}
 use Rattle.ndp_options.specs.declared.Step.the-variants.{Handed, End, Refused, Stopped}
 
@@ -22,7 +22,9 @@ kindBack k =
     (cond (eqb k 2) TargetLinkLayerAddress
     (cond (eqb k 3) PrefixInformation
     (cond (eqb k 4) RedirectedHeader
-    Mtu))))
+    (cond (eqb k 5) Mtu
+    (cond (eqb k 24) RouteInformation
+    RecursiveDnsServers))))))
 
 pub kind-back : (k : NdpOptionKind) → kindBack (optionKindNumber k) ≡ k
 kind-back Unknown = refl
@@ -31,6 +33,8 @@ kind-back TargetLinkLayerAddress = refl
 kind-back PrefixInformation = refl
 kind-back RedirectedHeader = refl
 kind-back Mtu = refl
+kind-back RouteInformation = refl
+kind-back RecursiveDnsServers = refl
 
 abbrev given : ℕ → List ℕ → ℕ → Step
 given which v next =

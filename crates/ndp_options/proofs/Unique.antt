@@ -7,6 +7,7 @@ use Rattle.paper.specs.Only.{Only, OnlyBy}
 use Rattle.paper.proofs.Facts.{one}
 use Rattle.ndp_options.proofs.Told.{step-lossless}
 use Rattle.ndp_options.proofs.NdpOption.bytes as bytes
+use Rattle.ndp_options.proofs.Edition.of as of
 use Rattle.ndp_options.proofs.Cursor.new as new
 use Rattle.ndp_options.proofs.Cursor.rest as rest
 use Rattle.ndp_options.proofs.Cursor.step as step
@@ -23,3 +24,6 @@ rest-unique M 𝓤 H A m f κs a g x y v w = one 𝓤 (λ p q. (p ∙ sym q, ref
 
 pub step-unique : Only step.ended (λ M 𝓤. step.clauses 𝓤)
 step-unique M 𝓤 H A m f κs a g x y v w = one 𝓤 (λ p q. (step-lossless x y (p ∙ sym q), refl))
+
+pub of-unique : Only of.ended (λ M 𝓤. of.clauses 𝓤)
+of-unique M 𝓤 H A m f κs a g x y v w = one 𝓤 (λ p q. (p ∙ sym q, refl))

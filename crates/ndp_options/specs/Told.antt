@@ -7,7 +7,7 @@ use Rattle.ndp_walk.specs.Judge as by
 use Rattle.ndp_walk.specs.Walk.{Item, item}
 use Rattle.ndp_walk.specs.Step.{Told, told, ended, stopped, handed}
 use Rattle.ndp_options.specs.declared.NdpOptionKind.{NdpOptionKind}
-use Rattle.ndp_options.specs.declared.NdpOptionKind.the-variants.{Unknown, SourceLinkLayerAddress, TargetLinkLayerAddress, PrefixInformation, RedirectedHeader, Mtu}
+use Rattle.ndp_options.specs.declared.NdpOptionKind.the-variants.{Unknown, SourceLinkLayerAddress, TargetLinkLayerAddress, PrefixInformation, RedirectedHeader, Mtu, RouteInformation, RecursiveDnsServers}
 use Rattle.ndp_options.specs.declared.NdpOption.{NdpOption}
 use Rattle.ndp_options.specs.declared.Judged.{Judged}
 use Rattle.ndp_options.specs.declared.Judged.the-variants.{Over, Bad, Good}
@@ -21,6 +21,8 @@ optionKindNumber TargetLinkLayerAddress = 2
 optionKindNumber PrefixInformation = 3
 optionKindNumber RedirectedHeader = 4
 optionKindNumber Mtu = 5
+optionKindNumber RouteInformation = 24
+optionKindNumber RecursiveDnsServers = 25
 
 abbrev pub itemTold : NdpOption → Item
 itemTold o = item (optionKindNumber (o .kind)) (o .«option_type» .0) (o .at) (o .len)

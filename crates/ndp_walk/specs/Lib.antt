@@ -3,3 +3,4 @@ pub mod Walk
 pub mod Step
 pub mod Laws
 pub mod Placed
+pub mod Editions

@@ -52,7 +52,7 @@ module _ {M : Type 1} (𝓤 : URA M) (H : Heap 𝓤) (A : Atoms 𝓤) (W : Given
   L = T′.the-laws (namedLft 1 0 tt (κ, tt))
 
   abbrev vd : Values (D .parts)
-  vd = (d .options, (d .offset, (d .at, tt)))
+  vd = (d .options, (d .offset, (d .edition, (d .at, tt))))
 
   pub apart : ent 𝓤 (⋆ 𝓤 H A ((‵ (flft κ q) ⊛ ‵ ftrue) ∷ ‵ (owns (B (κ, tt) ∷ []) (d, tt) (mach d ∷ [], tt)) ∷ []))
       (⋆ 𝓤 H A ((‵ (flft κ q) ⊛ ‵ ftrue) ∷ ‵ (OwnSlice κ d) ∷ ‵ (Own κ d) ∷ []))

@@ -12,13 +12,15 @@ use Rattle.ndp_walker.proofs.step as step
 use Rattle.ndp_walker.proofs.rest as rest
 use Rattle.ndp_walker.proofs.first_step as first-step
 
-same : (x y : Walker) → x .options ≡ y .options → x .offset ≡ y .offset → x .at ≡ y .at → x ≡ y
-same x y p q r =
-    ap (λ s. record { options = s; offset = x .offset; at = x .at }) p
-    ∙ (ap (λ (o : ℕ). record { options = y .options; offset = o; at = x .at }) q ∙ ap (λ (n : ℕ). record { options = y .options; offset = y .offset; at = n }) r)
+same : (x y : Walker) → x .options ≡ y .options → x .offset ≡ y .offset → x .edition ≡ y .edition → x .at ≡ y .at → x ≡ y
+same x y p q k r =
+    ap (λ s. record { options = s; offset = x .offset; edition = x .edition; at = x .at }) p
+    ∙ ap (λ (o : ℕ). record { options = y .options; offset = o; edition = x .edition; at = x .at }) q
+    ∙ ap (λ (e : ℕ). record { options = y .options; offset = y .offset; edition = e; at = x .at }) k
+    ∙ ap (λ (n : ℕ). record { options = y .options; offset = y .offset; edition = y .edition; at = n }) r
 
 pub from-slice-unique : Only from-slice.ended (λ M 𝓤. from-slice.clauses 𝓤)
-from-slice-unique M 𝓤 H A m f κs a g x y v w = one 𝓤 (λ p q. (same x y (p .0 ∙ sym (q .0)) (p .1 ∙ sym (q .1)) (p .2 ∙ sym (q .2)), refl))
+from-slice-unique M 𝓤 H A m f κs a g x y v w = one 𝓤 (λ p q. (same x y (p .0 ∙ sym (q .0)) (p .1 ∙ sym (q .1)) (p .2 ∙ sym (q .2)) (p .3 ∙ sym (q .3)), refl))
 
 pub step-unique : Only step.ended (λ M 𝓤. step.clauses 𝓤)
 step-unique M 𝓤 H A m f κs a g x y v w = one 𝓤 (λ p q. (step-lossless x y (p ∙ sym q), refl))

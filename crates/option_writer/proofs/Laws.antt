@@ -19,7 +19,11 @@ use Rattle.ndp_option_header.specs.Header.{unitBytes}
 use Rattle.ndp_option_read.specs.Rule.{sizedOf, partFrom}
 use lib.Dec.{lit<}
 use Rattle.ndp_options.specs.Rule.{rule}
+use Rattle.ndp_options.specs.Editions.{ruleBy}
 use Rattle.ndp_options.specs.Walk.{walk}
+use Rattle.ndp_options.specs.declared.Edition.{Edition}
+use Rattle.ndp_options.specs.declared.Edition.the-variants.{First, Second}
+use Rattle.ndp_options.proofs.Second.{same-rule}
 use Rattle.ndp_options.proofs.Laws.{options-clean}
 use Rattle.ndp_option_read.proofs.Rules.{exactly-accepts}
 use Rattle.ndp_option.specs.declared.link_layer_address_option.LinkLayerAddressOption.{LinkLayerAddressOption}
@@ -42,10 +46,11 @@ six a h = rw (← (drop-of-length-le a {i = 6} (omega arith)), at 5 (lit< tt), a
     at : (i : ℕ) → i < 6 → getD a i 0 ∷ drop (suc i) a ≡ drop i a
     at i l = sym (drop-cons a i 0 (omega arith))
 
--- bytes that are an option of a kind: as long as their second byte says, and of a size that their type's rule takes
+-- bytes that are an option of a kind: as long as their second byte says, of a type that the first edition knows, and of a size that its rule takes
 pub record Option (kind : ℕ) (o : List ℕ) : Type 0 where
   pub some : 0 < getD o 1 0
   pub long : length o ≡ unitBytes (getD o 1 0)
+  pub known : getD o 0 0 < 6
   pub fits : rule o ≡ Fits kind
 
 -- the walk over one option
@@ -53,30 +58,36 @@ abbrev pub alone : ℕ → List ℕ → Walk
 alone kind o = record { items = item kind (getD o 0 0) 0 (length o) ∷ []; ending = Clean }
 
 module _ {kind : ℕ} {o : List ℕ} (is : Option kind o) where
-  walked : walk o ≡ alone kind o
-  walked =
-      let same : kindIn (rule o) ≡ kind = ap kindIn (is .fits) in
-      ap walk (sym (append-nil o))
-      ∙ options-clean (o ∷ []) ((is .some, is .long, is .fits ∙ ap Fits (sym same)), tt)
+  -- in the second edition too
+  taken : (ed : Edition) → ruleBy ed o ≡ Fits kind
+  unfolding ruleBy
+  taken First = is .fits
+  taken Second = same-rule o (λ e. omega (arith, is .known)) (λ e. omega (arith, is .known)) ∙ is .fits
+
+  walked : (ed : Edition) → walk ed o ≡ alone kind o
+  walked ed =
+      let same : kindIn (ruleBy ed o) ≡ kind = ap kindIn (taken ed) in
+      ap (walk ed) (sym (append-nil o))
+      ∙ options-clean ed (o ∷ []) ((is .some, is .long, taken ed ∙ ap Fits (sym same)), tt)
       ∙ ap (λ (k : ℕ). alone k o) same
 
   -- the walk over what was written at the start of a buffer hands out exactly that option, and ends
-  pub read-back : (out : List ℕ) → length o ≤ length out → walk (take (length o) (leaves (roomFor (length o) out 0) out 0 o)) ≡ alone kind o
-  read-back out enough = rw (there-is-room (length o) out 0 (omega arith), over-start out o, take-append-seam) walked
+  pub read-back : (ed : Edition) (out : List ℕ) → length o ≤ length out → walk ed (take (length o) (leaves (roomFor (length o) out 0) out 0 o)) ≡ alone kind o
+  read-back ed out enough = rw (there-is-room (length o) out 0 (omega arith), over-start out o, take-append-seam) (walked ed)
 
 -- the encoders' bytes
 pub prefix-option : (i : PrefixInformation) → length (i .prefix) ≡ 16 → Option 3 (bytesOf i)
 unfolding rule
-prefix-option i h = record { some = lit< tt; long = omega arith; fits = rw h }
+prefix-option i h = record { some = lit< tt; long = omega arith; known = lit< tt; fits = rw h }
 
 pub mtu-option : (mtu : ℕ) → Option 5 (mtuBytes mtu)
 unfolding rule
-mtu-option mtu = record { some = lit< tt; long = refl; fits = refl }
+mtu-option mtu = record { some = lit< tt; long = refl; known = lit< tt; fits = refl }
 
 pub link-layer-option : (whose : LinkLayerAddressOption) (address : List ℕ) → length address ≡ 6 → Option (linkLayerType whose) (linkLayerBytes whose address)
 unfolding rule
-link-layer-option Source address h = record { some = lit< tt; long = omega arith; fits = rw h }
-link-layer-option Target address h = record { some = lit< tt; long = omega arith; fits = rw h }
+link-layer-option Source address h = record { some = lit< tt; long = omega arith; known = lit< tt; fits = rw h }
+link-layer-option Target address h = record { some = lit< tt; long = omega arith; known = lit< tt; fits = rw h }
 
 -- and each option's own reader gives back what was written (of the prefix information: prefix_information.proofs.RoundTrip)
 pub mtu-read : (mtu : ℕ) → mtu < 4294967296 → mtuOf (mtuBytes mtu) ≡ gives (mtu ∷ [])

@@ -5,6 +5,7 @@ use capture::Record;
 use capture::next_record;
 use libc::STDIN_FILENO;
 use libc::STDOUT_FILENO;
+use ndp_options::Edition;
 use quotes::Chain;
 use quotes::ChainAnswer;
 use quotes::ChainRead;
@@ -68,7 +69,10 @@ fn print_answer(read: ChainRead) {
 }
 
 fn answer(records: &[u8], found: Record) {
-    print_answer(read_chain(capture::part(records, found.packet, found.len)));
+    print_answer(read_chain(
+        capture::part(records, found.packet, found.len),
+        Edition::First,
+    ));
 }
 
 fn answer_all(records: &[u8]) {

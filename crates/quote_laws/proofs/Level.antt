@@ -9,6 +9,7 @@ use native.Mathlib.Decide.{decLe}
 use lib.ListN.{length, getD, take, drop, length-drop}
 use lib.Seq.{drop-drop, take-take, length-take-le}
 use Rattle.paper.specs.Paper.{Paper, gives}
+use Rattle.ndp_options.specs.declared.Edition.{Edition}
 use Rattle.quotes.specs.Head.{nextHeader}
 use Rattle.quotes.specs.Chain.{foundOf}
 use Rattle.quotes.specs.Reading.{Quoted, other, inner, Messaged, ends, quotes, QuoteRead, MessageRead}
@@ -33,19 +34,20 @@ rest-in a m b s = drop-take b m (drop a s) ∙ ap (take (m - b)) (drop-drop b a 
 part-in : (a m b n : ℕ) (s : List ℕ) → b + n ≤ m → take n (drop b (take m (drop a s))) ≡ take n (drop (a + b) s)
 part-in a m b n s h = ap (take n) (rest-in a m b s) ∙ take-take n (m - b) (drop (a + b) s) (omega arith)
 
--- ---- a message that was read has its head
-pub has-head : (k place : ℕ) (s v : List ℕ) → MessageRead k place s v → 8 ≤ length s
-has-head k place s v r = elim (decLe 8 (length s)) [
-  | yes h ↦ h
-  | no h ↦ absurd (go (short place s (omega arith)) r refl)
-]
-  where
-    unlike : {p : Paper} {w : List ℕ} → foundOf place s ≡ p → p .number ≡ 1 → foundOf place s ≡ gives w → ⊥
-    unlike e n q = let z = ap (λ (p : Paper). p .number) (sym e ∙ q) in omega arith
+module _ (ed : Edition) where
+  -- ---- a message that was read has its head
+  pub has-head : (k place : ℕ) (s v : List ℕ) → MessageRead ed k place s v → 8 ≤ length s
+  has-head k place s v r = elim (decLe 8 (length s)) [
+    | yes h ↦ h
+    | no h ↦ absurd (go (short ed place s (omega arith)) r refl)
+  ]
+    where
+      unlike : {p : Paper} {w : List ℕ} → foundOf ed place s ≡ p → p .number ≡ 1 → foundOf ed place s ≡ gives w → ⊥
+      unlike e n q = let z = ap (λ (p : Paper). p .number) (sym e ∙ q) in omega arith
 
-    go : {p : Paper} {v : List ℕ} → foundOf place s ≡ p → Messaged (QuoteRead k) place s v → p .number ≡ 1 → ⊥
-    go e (ends kind f) n = unlike e n f
-    go e (quotes kind from to f q) n = unlike e n f
+      go : {p : Paper} {v : List ℕ} → foundOf ed place s ≡ p → Messaged ed (QuoteRead ed k) place s v → p .number ≡ 1 → ⊥
+      go e (ends kind f) n = unlike e n f
+      go e (quotes kind from to f q) n = unlike e n f
 
 -- ---- the levels of a list of numbers
 module _ (i q kind from next : ℕ) (v : List ℕ) where
@@ -64,71 +66,72 @@ module _ (i q kind from next : ℕ) (v : List ℕ) where
   pub drop-below : drop (3 * suc i + 3) (kind ∷ from ∷ next ∷ v) ≡ drop (3 * i + 3) v
   drop-below = let n : 3 * suc i + 3 ≡ suc (suc (suc (3 * i + 3))) = omega arith in rw n
 
--- ---- the message of level i, whose quote is at q
-pub record LevelRead (k place i q : ℕ) (s v : List ℕ) : Type 0 where
-  pub left : ℕ
-  pub fewer : left ≤ k
-  pub bytes : ℕ
-  pub low : place + 8 ≤ q
-  pub high : q + 40 + bytes ≤ place + length s
-  pub read : MessageRead left (q + 40) (take bytes (drop (q + 40 - place) s)) (drop (3 * i + 3) v)
+module _ (ed : Edition) where
+  -- ---- the message of level i, whose quote is at q
+  pub record LevelRead (k place i q : ℕ) (s v : List ℕ) : Type 0 where
+    pub left : ℕ
+    pub fewer : left ≤ k
+    pub bytes : ℕ
+    pub low : place + 8 ≤ q
+    pub high : q + 40 + bytes ≤ place + length s
+    pub read : MessageRead ed left (q + 40) (take bytes (drop (q + 40 - place) s)) (drop (3 * i + 3) v)
 
--- what is said of every message with so many levels left
-abbrev pub Down : ℕ → Type 0
-Down k = (place : ℕ) (s v : List ℕ) → MessageRead k place s v → (i q : ℕ) → Holds i q v → LevelRead k place i q s v
+  -- what is said of every message with so many levels left
+  abbrev pub Down : ℕ → Type 0
+  Down k = (place : ℕ) (s v : List ℕ) → MessageRead ed k place s v → (i q : ℕ) → Holds i q v → LevelRead k place i q s v
 
-pub level-read : (k : ℕ) → Down k
-level-read zero place s v r i q h = go r h
-  where
-    go : {v : List ℕ} → Messaged (QuoteRead zero) place s v → Holds i q v → LevelRead zero place i q s v
-    go (ends kind e) h = absurd (omega (arith, h .quote .there))
-    go (quotes kind from to e r) h = absurd r
-level-read (suc k) place s v r i q h = go (level-read k) r i h
-  where
-    in-quote : Down k → (kind from to : ℕ) {v : List ℕ} → Within place s from to → Quoted (MessageRead k) from (take (to - from) (drop (from - place) s)) v → (i : ℕ) → Holds i q (kind ∷ v) → LevelRead (suc k) place i q s (kind ∷ v)
-    in-quote down kind from to w (other l x n) zero h = absurd (n (h .message .is))
-    in-quote down kind from to w (other l x n) (suc i) h = absurd (omega (arith, h .quote .there))
-    in-quote down kind from to w (inner {v} l x n r) zero h =
-        let part = take (to - from) (drop (from - place) s) in
-        let here : from ≡ q = h .quote .is in
-        let size : length part ≡ to - from = part-length place s w in
-        let at : from - place + 40 ≡ q + 40 - place = omega (arith, here, w .low) in
-        let there : from + 40 ≡ q + 40 = omega (arith, here) in
-        let same : drop 40 part ≡ take (to - from - 40) (drop (q + 40 - place) s) = rest-in (from - place) (to - from) 40 s ∙ ap (λ (n : ℕ). take (to - from - 40) (drop n s)) at in
-        record {
-          left = k;
-          fewer = omega arith;
-          bytes = to - from - 40;
-          low = omega (arith, here, w .low);
-          high = omega (arith, here, w .high, w .order, size, l);
-          read = rw (← same, ← there) r;
-        }
-    in-quote down kind from to w (inner {v} l x n r) (suc i) h =
-        let part = take (to - from) (drop (from - place) s) in
-        let size : length part ≡ to - from = part-length place s w in
-        let rest : length (drop 40 part) ≡ length part - 40 = length-drop 40 part in
-        let m = down (from + 40) (drop 40 part) v r i q (holds-below i q kind from (nextHeader part) v h) in
-        let at : from - place + (40 + (q + 40 - (from + 40))) ≡ q + 40 - place = omega (arith, w .low, m .low) in
-        let same : take (m .bytes) (drop (q + 40 - (from + 40)) (drop 40 part)) ≡ take (m .bytes) (drop (q + 40 - place) s) =
-        ap (take (m .bytes)) (drop-drop (q + 40 - (from + 40)) 40 part)
-        ∙ part-in (from - place) (to - from) (40 + (q + 40 - (from + 40))) (m .bytes) s (omega (arith, m .high, m .low, rest, size, l))
-        ∙ ap (λ (n : ℕ). take (m .bytes) (drop n s)) at in
-        record {
-          left = m .left;
-          fewer = omega (arith, m .fewer);
-          bytes = m .bytes;
-          low = omega (arith, m .low, w .low);
-          high = omega (arith, m .high, rest, size, l, w .high, w .order);
-          read = rw (← same, drop-below i q kind from (nextHeader part) v) (m .read);
-        }
+  pub level-read : (k : ℕ) → Down k
+  level-read zero place s v r i q h = go r h
+    where
+      go : {v : List ℕ} → Messaged ed (QuoteRead ed zero) place s v → Holds i q v → LevelRead zero place i q s v
+      go (ends kind e) h = absurd (omega (arith, h .quote .there))
+      go (quotes kind from to e r) h = absurd r
+  level-read (suc k) place s v r i q h = go (level-read k) r i h
+    where
+      in-quote : Down k → (kind from to : ℕ) {v : List ℕ} → Within place s from to → Quoted (MessageRead ed k) from (take (to - from) (drop (from - place) s)) v → (i : ℕ) → Holds i q (kind ∷ v) → LevelRead (suc k) place i q s (kind ∷ v)
+      in-quote down kind from to w (other l x n) zero h = absurd (n (h .message .is))
+      in-quote down kind from to w (other l x n) (suc i) h = absurd (omega (arith, h .quote .there))
+      in-quote down kind from to w (inner {v} l x n r) zero h =
+          let part = take (to - from) (drop (from - place) s) in
+          let here : from ≡ q = h .quote .is in
+          let size : length part ≡ to - from = part-length place s w in
+          let at : from - place + 40 ≡ q + 40 - place = omega (arith, here, w .low) in
+          let there : from + 40 ≡ q + 40 = omega (arith, here) in
+          let same : drop 40 part ≡ take (to - from - 40) (drop (q + 40 - place) s) = rest-in (from - place) (to - from) 40 s ∙ ap (λ (n : ℕ). take (to - from - 40) (drop n s)) at in
+          record {
+            left = k;
+            fewer = omega arith;
+            bytes = to - from - 40;
+            low = omega (arith, here, w .low);
+            high = omega (arith, here, w .high, w .order, size, l);
+            read = rw (← same, ← there) r;
+          }
+      in-quote down kind from to w (inner {v} l x n r) (suc i) h =
+          let part = take (to - from) (drop (from - place) s) in
+          let size : length part ≡ to - from = part-length place s w in
+          let rest : length (drop 40 part) ≡ length part - 40 = length-drop 40 part in
+          let m = down (from + 40) (drop 40 part) v r i q (holds-below i q kind from (nextHeader part) v h) in
+          let at : from - place + (40 + (q + 40 - (from + 40))) ≡ q + 40 - place = omega (arith, w .low, m .low) in
+          let same : take (m .bytes) (drop (q + 40 - (from + 40)) (drop 40 part)) ≡ take (m .bytes) (drop (q + 40 - place) s) =
+          ap (take (m .bytes)) (drop-drop (q + 40 - (from + 40)) 40 part)
+          ∙ part-in (from - place) (to - from) (40 + (q + 40 - (from + 40))) (m .bytes) s (omega (arith, m .high, m .low, rest, size, l))
+          ∙ ap (λ (n : ℕ). take (m .bytes) (drop n s)) at in
+          record {
+            left = m .left;
+            fewer = omega (arith, m .fewer);
+            bytes = m .bytes;
+            low = omega (arith, m .low, w .low);
+            high = omega (arith, m .high, rest, size, l, w .high, w .order);
+            read = rw (← same, drop-below i q kind from (nextHeader part) v) (m .read);
+          }
 
-    go : {v : List ℕ} → Down k → Messaged (QuoteRead (suc k)) place s v → (i : ℕ) → Holds i q v → LevelRead (suc k) place i q s v
-    go down (ends kind e) i h = absurd (omega (arith, h .quote .there))
-    go down (quotes kind from to e r) i h = in-quote down kind from to (within place s (sym e)) r i h
+      go : {v : List ℕ} → Down k → Messaged ed (QuoteRead ed (suc k)) place s v → (i : ℕ) → Holds i q v → LevelRead (suc k) place i q s v
+      go down (ends kind e) i h = absurd (omega (arith, h .quote .there))
+      go down (quotes kind from to e r) i h = in-quote down kind from to (within ed place s (sym e)) r i h
 
--- it has its head, before the end of what it stands in
-pub level-end : {k place i q : ℕ} {s v : List ℕ} → LevelRead k place i q s v → q + 48 ≤ place + length s
-level-end {place = place} {q = q} {s = s} m =
-    let size = length-take-le (m .bytes) (drop (q + 40 - place) s) (omega (arith, length-drop (q + 40 - place) s, m .high, m .low)) in
-    let head = has-head (m .left) (q + 40) (take (m .bytes) (drop (q + 40 - place) s)) _ (m .read) in
-    omega (arith, size, head, m .high)
+  -- it has its head, before the end of what it stands in
+  pub level-end : {k place i q : ℕ} {s v : List ℕ} → LevelRead k place i q s v → q + 48 ≤ place + length s
+  level-end {place = place} {q = q} {s = s} m =
+      let size = length-take-le (m .bytes) (drop (q + 40 - place) s) (omega (arith, length-drop (q + 40 - place) s, m .high, m .low)) in
+      let head = has-head ed (m .left) (q + 40) (take (m .bytes) (drop (q + 40 - place) s)) _ (m .read) in
+      omega (arith, size, head, m .high)

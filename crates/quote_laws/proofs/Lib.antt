@@ -7,3 +7,4 @@ pub mod Bodies
 pub mod Fields
 pub mod Never
 pub mod Cases
+pub mod Editions

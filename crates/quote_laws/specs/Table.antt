@@ -5,6 +5,7 @@ use mathlib.Core.Path.{_≡_}
 use mathlib.Core.List.{List, [], _∷_, _++_}
 use lib.ListN.{replicate}
 use Rattle.paper.specs.Paper.{Paper, refuses, gives}
+use Rattle.ndp_options.specs.declared.Edition.the-variants.{First}
 use Rattle.quotes.specs.Chain.{chainOf}
 
 abbrev pub zeros : ℕ → List ℕ
@@ -50,7 +51,7 @@ abbrev case : List ℕ → Paper → Case
 case packet answer = record { packet = packet; answer = answer }
 
 abbrev pub Claim : Case → Type 0
-Claim c = chainOf (c .packet) ≡ c .answer
+Claim c = chainOf First (c .packet) ≡ c .answer
 
 abbrev pub table : List Case
 table =

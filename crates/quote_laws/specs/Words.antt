@@ -9,6 +9,7 @@ use Rattle.paper.specs.Paper.{gives}
 use Rattle.message_table.specs.Table.{known, fixedLen, isNdp}
 use Rattle.ndp_walk.specs.Walk.{Clean}
 use Rattle.ndp_options.specs.Walk.{walk}
+use Rattle.ndp_options.specs.declared.Edition.{Edition}
 use Rattle.quotes.specs.Chain.{chainOf}
 
 -- a number at a place of a list
@@ -33,15 +34,15 @@ move d [] = []
 move d (kind ∷ l) = kind ∷ moveLevels d l
 
 -- a message of Neighbor Discovery has a list that walks clean to its end
-abbrev pub CleanList : List ℕ → Type 0
-CleanList s = known (getD s 0 0) (getD s 1 0) ≡ true → isNdp (getD s 0 0) ≡ true → walk (drop (8 + fixedLen (getD s 0 0)) s) .ending ≡ Clean
+abbrev pub CleanList : Edition → List ℕ → Type 0
+CleanList e s = known (getD s 0 0) (getD s 1 0) ≡ true → isNdp (getD s 0 0) ≡ true → walk e (drop (8 + fixedLen (getD s 0 0)) s) .ending ≡ Clean
 
 -- the message of level i, 40 bytes behind its quote at a place: so many bytes within the packet, whose chain, read by themselves, is what stands behind the
 -- level, but for the places, which are so much further on
-pub record Message (packet : List ℕ) (i place : ℕ) : Type 0 where
+pub record Message (e : Edition) (packet : List ℕ) (i place : ℕ) : Type 0 where
   pub bytes : ℕ
   pub within : place + 40 + bytes ≤ length packet
   pub own : List ℕ
-  pub alone : chainOf (take bytes (drop (place + 40) packet)) ≡ gives own
-  pub behind : drop (3 * i + 3) (chainOf packet .values) ≡ move (place + 40) own
-  pub whole : CleanList (take bytes (drop (place + 40) packet))
+  pub alone : chainOf e (take bytes (drop (place + 40) packet)) ≡ gives own
+  pub behind : drop (3 * i + 3) (chainOf e packet .values) ≡ move (place + 40) own
+  pub whole : CleanList e (take bytes (drop (place + 40) packet))

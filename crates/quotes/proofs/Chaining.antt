@@ -11,20 +11,21 @@ use Rattle.paper.specs.Paper.{Paper, refuses, gives}
 use Rattle.refusal.specs.declared.Refusal.{Refusal}
 use Rattle.refusal.specs.Paper.{refusal}
 use Rattle.refusal.proofs.Paper.{refusal-numbered}
+use Rattle.ndp_options.specs.declared.Edition.{Edition}
 use Rattle.quotes.specs.Head.{version, nextHeader}
 use Rattle.quotes.specs.Chain.{after, foundOf, messageAt, quoteAt}
 
 -- ---- a message, by what is found there
-module _ (k place : ℕ) (s : List ℕ) where
-  pub bad : (why : Refusal) → refusal why ≡ foundOf place s → messageAt k place s ≡ refusal why
+module _ (ed : Edition) (k place : ℕ) (s : List ℕ) where
+  pub bad : (why : Refusal) → refusal why ≡ foundOf ed place s → messageAt ed k place s ≡ refusal why
   unfolding messageAt
   bad why e = rw (← e, refusal-numbered why)
 
-  pub ends : (kind : ℕ) → gives (kind ∷ []) ≡ foundOf place s → messageAt k place s ≡ gives (kind ∷ [])
+  pub ends : (kind : ℕ) → gives (kind ∷ []) ≡ foundOf ed place s → messageAt ed k place s ≡ gives (kind ∷ [])
   unfolding messageAt
   ends kind e = rw (← e)
 
-  pub quotes : (kind from to : ℕ) → gives (kind ∷ from ∷ to ∷ []) ≡ foundOf place s → messageAt k place s ≡ after (kind ∷ []) (quoteAt k from (take (to - from) (drop (from - place) s)))
+  pub quotes : (kind from to : ℕ) → gives (kind ∷ from ∷ to ∷ []) ≡ foundOf ed place s → messageAt ed k place s ≡ after (kind ∷ []) (quoteAt ed k from (take (to - from) (drop (from - place) s)))
   unfolding messageAt
   quotes kind from to e = rw (← e)
 
@@ -32,26 +33,26 @@ module _ (k place : ℕ) (s : List ℕ) where
 left : (level : ℕ) → level ≤ 8 → level ≢ 8 → 8 - level ≡ suc (8 - (level + 1))
 left level h n = omega arith
 
-module _ (level place : ℕ) (s : List ℕ) where
-  pub ninth : level ≡ 8 → quoteAt (8 - level) place s ≡ refuses 17 (place ∷ [])
+module _ (ed : Edition) (level place : ℕ) (s : List ℕ) where
+  pub ninth : level ≡ 8 → quoteAt ed (8 - level) place s ≡ refuses 17 (place ∷ [])
   unfolding quoteAt
   ninth e = rw e
 
   module _ (h : level ≤ 8) (n : level ≢ 8) where
-    pub short : length s < 40 → quoteAt (8 - level) place s ≡ refuses 15 (place ∷ [])
+    pub short : length s < 40 → quoteAt ed (8 - level) place s ≡ refuses 15 (place ∷ [])
     unfolding quoteAt
     short l = rw (left level h n, lt-ltb (length s) 40 l)
 
     module _ (l : 40 ≤ length s) where
-      pub other-version : version s ≢ 6 → quoteAt (8 - level) place s ≡ refuses 16 (place ∷ [])
+      pub other-version : version s ≢ 6 → quoteAt ed (8 - level) place s ≡ refuses 16 (place ∷ [])
       unfolding quoteAt
       other-version v = rw (left level h n, le-ltb (length s) 40 l, ne-eqb (version s) 6 v)
 
       module _ (v : version s ≡ 6) where
-        pub other-header : nextHeader s ≢ 58 → quoteAt (8 - level) place s ≡ gives (place ∷ nextHeader s ∷ 0 ∷ [])
+        pub other-header : nextHeader s ≢ 58 → quoteAt ed (8 - level) place s ≡ gives (place ∷ nextHeader s ∷ 0 ∷ [])
         unfolding quoteAt
         other-header x = rw (left level h n, le-ltb (length s) 40 l, eq-eqb (version s) 6 v, ne-eqb (nextHeader s) 58 x)
 
-        pub inner : nextHeader s ≡ 58 → quoteAt (8 - level) place s ≡ after (place ∷ nextHeader s ∷ []) (messageAt (8 - (level + 1)) (place + 40) (drop 40 s))
+        pub inner : nextHeader s ≡ 58 → quoteAt ed (8 - level) place s ≡ after (place ∷ nextHeader s ∷ []) (messageAt ed (8 - (level + 1)) (place + 40) (drop 40 s))
         unfolding quoteAt messageAt
         inner x = rw (left level h n, le-ltb (length s) 40 l, eq-eqb (version s) 6 v, eq-eqb (nextHeader s) 58 x)

@@ -11,11 +11,12 @@ use lib.Seq.{length-take-le}
 use borrow.Author.Tests.{lt-ltb, le-ltb, ltb-false, ne-eqb}
 use Rattle.paper.specs.Paper.{Paper, refuses, gives}
 use Rattle.message_table.specs.Table.{known, fixedLen, isNdp}
+use Rattle.ndp_options.specs.declared.Edition.{Edition}
 use Rattle.ndp_option_list.specs.Whole.{firstOf}
 use Rattle.ndp_option_list.proofs.Firstly.{Firstly, nowhere, there, FirstAnswer, clean, refused, first-answer}
 use Rattle.quotes.specs.Chain.{quoteIn, onward, after, inOptions, foundOf}
 
-module _ (place : ℕ) (s : List ℕ) where
+module _ (ed : Edition) (place : ℕ) (s : List ℕ) where
   abbrev kind : ℕ
   kind = getD s 0 0
 
@@ -23,30 +24,30 @@ module _ (place : ℕ) (s : List ℕ) where
   code = getD s 1 0
 
   -- ---- the tests in their order
-  pub short : length s < 8 → foundOf place s ≡ refuses 1 (8 ∷ length s ∷ [])
+  pub short : length s < 8 → foundOf ed place s ≡ refuses 1 (8 ∷ length s ∷ [])
   unfolding foundOf
   short h = simp (lt-ltb (length s) 8 h)
 
   module _ (h : 8 ≤ length s) where
-    pub unknown : known kind code ≡ false → foundOf place s ≡ gives (0 ∷ [])
+    pub unknown : known kind code ≡ false → foundOf ed place s ≡ gives (0 ∷ [])
     unfolding foundOf
     unknown k = simp (le-ltb (length s) 8 h, k)
 
     module _ (k : known kind code ≡ true) where
-      pub error : kind < 5 → foundOf place s ≡ gives (kind ∷ (place + 8) ∷ (place + length s) ∷ [])
+      pub error : kind < 5 → foundOf ed place s ≡ gives (kind ∷ (place + 8) ∷ (place + length s) ∷ [])
       unfolding foundOf
       error e = simp (le-ltb (length s) 8 h, k, lt-ltb kind 5 e)
 
       module _ (e : 5 ≤ kind) where
-        pub other : isNdp kind ≡ false → foundOf place s ≡ gives (kind ∷ [])
+        pub other : isNdp kind ≡ false → foundOf ed place s ≡ gives (kind ∷ [])
         unfolding foundOf
         other n = simp (le-ltb (length s) 8 h, k, le-ltb kind 5 e, n)
 
-        pub cut : isNdp kind ≡ true → length s - 8 < fixedLen kind → foundOf place s ≡ refuses 4 (fixedLen kind ∷ (length s - 8) ∷ [])
+        pub cut : isNdp kind ≡ true → length s - 8 < fixedLen kind → foundOf ed place s ≡ refuses 4 (fixedLen kind ∷ (length s - 8) ∷ [])
         unfolding foundOf
         cut n f = simp (le-ltb (length s) 8 h, k, le-ltb kind 5 e, n, lt-ltb (length s - 8) (fixedLen kind) f)
 
-        pub listed : isNdp kind ≡ true → fixedLen kind ≤ length s - 8 → foundOf place s ≡ inOptions kind place (8 + fixedLen kind) s
+        pub listed : isNdp kind ≡ true → fixedLen kind ≤ length s - 8 → foundOf ed place s ≡ inOptions ed kind place (8 + fixedLen kind) s
         unfolding foundOf
         listed n f = simp (le-ltb (length s) 8 h, k, le-ltb kind 5 e, n, le-ltb (length s - 8) (fixedLen kind) f)
 
@@ -68,8 +69,8 @@ kept f p h = simp (ne-eqb (p .number) 0 (omega arith))
 pub kept-after : (l : List ℕ) (p : Paper) → 0 < p .number → after l p ≡ p
 kept-after l p h = kept (λ (v : List ℕ). gives (l ++ v)) p h
 
-module _ (place : ℕ) (s : List ℕ) where
-  pub found : Finding place s (foundOf place s)
+module _ (ed : Edition) (place : ℕ) (s : List ℕ) where
+  pub found : Finding place s (foundOf ed place s)
   unfolding foundOf
   found = go (ltb (length s) 8) refl (known (getD s 0 0) (getD s 1 0)) (ltb (getD s 0 0) 5) (isNdp (getD s 0 0)) (ltb (length s - 8) (fixedLen (getD s 0 0))) refl
     where
@@ -90,7 +91,7 @@ module _ (place : ℕ) (s : List ℕ) where
           (cond c (gives (getD s 0 0 ∷ (place + 8) ∷ (place + length s) ∷ []))
           (cond d
           (cond e (refuses 4 (fixedLen (getD s 0 0) ∷ (length s - 8) ∷ []))
-          (inOptions (getD s 0 0) place (8 + fixedLen (getD s 0 0)) s))
+          (inOptions ed (getD s 0 0) place (8 + fixedLen (getD s 0 0)) s))
           (gives (getD s 0 0 ∷ []))))
           (gives (0 ∷ []))))
       go true h b c d e i = bad (lit≤ tt)
@@ -101,9 +102,9 @@ module _ (place : ℕ) (s : List ℕ) where
       go false h true false true false i =
           let l = ltb-false (length s) 8 h in
           let f = ltb-false (length s - 8) (fixedLen (getD s 0 0)) i in
-          by-answer (8 + fixedLen (getD s 0 0)) (omega arith) (omega arith) (first-answer 4 (place + (8 + fixedLen (getD s 0 0))) (drop (8 + fixedLen (getD s 0 0)) s))
+          by-answer (8 + fixedLen (getD s 0 0)) (omega arith) (omega arith) (first-answer ed 4 (place + (8 + fixedLen (getD s 0 0))) (drop (8 + fixedLen (getD s 0 0)) s))
 
-  pub within : {kind from to : ℕ} → gives (kind ∷ from ∷ to ∷ []) ≡ foundOf place s → Within place s from to
+  pub within : {kind from to : ℕ} → gives (kind ∷ from ∷ to ∷ []) ≡ foundOf ed place s → Within place s from to
   within {kind} {from} {to} e = go found e
     where
       go : {p : Paper} → Finding place s p → gives (kind ∷ from ∷ to ∷ []) ≡ p → Within place s from to
@@ -114,6 +115,7 @@ module _ (place : ℕ) (s : List ℕ) where
           let d : to ≡ t = ap (λ (p : Paper). getD (p .values) 2 0) q in
           rw (a, d) w
 
+module _ (place : ℕ) (s : List ℕ) where
   -- the quote's bytes, as the code cuts them out of the message, and how many there are
   pub same-part : {from to : ℕ} → Within place s from to → take (to - place - (from - place)) (drop (from - place) s) ≡ take (to - from) (drop (from - place) s)
   same-part {from} {to} w = let n : to - place - (from - place) ≡ to - from = omega (arith, w .low, w .order) in rw n

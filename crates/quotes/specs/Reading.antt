@@ -6,6 +6,7 @@ use mathlib.Core.Logic.{_≢_}
 use mathlib.Core.List.{List, [], _∷_}
 use lib.ListN.{length, take, drop}
 use Rattle.paper.specs.Paper.{gives}
+use Rattle.ndp_options.specs.declared.Edition.{Edition}
 use Rattle.quotes.specs.Head.{headLen, version, nextHeader, icmpv6}
 use Rattle.quotes.specs.Chain.{foundOf}
 
@@ -19,14 +20,14 @@ pub data Quoted (M : Reads) (place : ℕ) (s : List ℕ) : List ℕ → Type 0 w
   inner : {v : List ℕ} → headLen ≤ length s → version s ≡ 6 → nextHeader s ≡ icmpv6 → M (place + headLen) (drop headLen s) v → Quoted M place s (place ∷ nextHeader s ∷ v)
 
 -- a message, over a relation that reads quotes
-pub data Messaged (Q : Reads) (place : ℕ) (s : List ℕ) : List ℕ → Type 0 where
-  ends : (kind : ℕ) → foundOf place s ≡ gives (kind ∷ []) → Messaged Q place s (kind ∷ [])
-  quotes : (kind from to : ℕ) {v : List ℕ} → foundOf place s ≡ gives (kind ∷ from ∷ to ∷ []) → Q from (take (to - from) (drop (from - place) s)) v → Messaged Q place s (kind ∷ v)
+pub data Messaged (e : Edition) (Q : Reads) (place : ℕ) (s : List ℕ) : List ℕ → Type 0 where
+  ends : (kind : ℕ) → foundOf e place s ≡ gives (kind ∷ []) → Messaged e Q place s (kind ∷ [])
+  quotes : (kind from to : ℕ) {v : List ℕ} → foundOf e place s ≡ gives (kind ∷ from ∷ to ∷ []) → Q from (take (to - from) (drop (from - place) s)) v → Messaged e Q place s (kind ∷ v)
 
 -- with so many levels left
-abbrev pub QuoteRead : ℕ → Reads
-QuoteRead zero place s v = ⊥
-QuoteRead (suc k) place s v = Quoted (Messaged (QuoteRead k)) place s v
+abbrev pub QuoteRead : Edition → ℕ → Reads
+QuoteRead e zero place s v = ⊥
+QuoteRead e (suc k) place s v = Quoted (Messaged e (QuoteRead e k)) place s v
 
-abbrev pub MessageRead : ℕ → Reads
-MessageRead k = Messaged (QuoteRead k)
+abbrev pub MessageRead : Edition → ℕ → Reads
+MessageRead e k = Messaged e (QuoteRead e k)

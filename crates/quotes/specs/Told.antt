@@ -9,6 +9,7 @@ use lib.ListN.{length, take, drop, replicate}
 use Rattle.paper.specs.Paper.{Paper, gives}
 use Rattle.refusal.specs.Paper.{refusal}
 use Rattle.output.specs.Output.{over}
+use Rattle.ndp_options.specs.declared.Edition.{Edition}
 use Rattle.quotes.specs.Chain.{onward, chainOf}
 use Rattle.quotes.specs.declared.Found.{Found}
 use Rattle.quotes.specs.declared.Found.the-variants.{Nothing, Quote, Refused as FoundRefused}
@@ -44,8 +45,8 @@ chainWith v = record { levels = length v / 3; numbers = v ++ drop (length v) (re
 abbrev pub chainBy : Paper → ChainTold
 chainBy p = toldWith p (chainWith (cond (eqb (p .number) 0) (p .values) []))
 
-unfoldable pub readOf : List ℕ → ChainTold
-readOf packet = chainBy (chainOf packet)
+unfoldable pub readOf : Edition → List ℕ → ChainTold
+readOf e packet = chainBy (chainOf e packet)
 
 -- ---- within
 abbrev pub foundTold : Found → Paper

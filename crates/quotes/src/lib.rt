@@ -9,6 +9,7 @@ ghost use Rattle.refusal.specs.Paper.{refusal};
 ghost use Rattle.quotes.specs.Chain.{foundOf, messageAt, quoteAt};
 ghost use Rattle.quotes.specs.Told.{foundTold, readTold, toldAt, Puts, chainTold, toldWith, chainWith, readOf};
 use ndp_option_list::First;
+use ndp_options::Edition;
 use packet_length::PacketLength;
 use refusal::NdpOptionType;
 use refusal::Refusal;
@@ -63,9 +64,9 @@ fn wide(x: u8) -> u32
 }
 
 // All tests of a message whose first byte is at a place.
-fn find_quote(s: &[u8], place: usize) -> Found
+fn find_quote(s: &[u8], place: usize, edition: Edition) -> Found
     requires { ⌜ place + length (now s) < 2 ^ 32 ⌝ }
-    ensures { λ r. ⌜ foundTold r ≡ foundOf place (now (s .entry)) ⌝ }
+    ensures { λ r. ⌜ foundTold r ≡ foundOf edition place (now (s .entry)) ⌝ }
 {
     let n = s.len();
     if n < 8 {
@@ -90,7 +91,7 @@ fn find_quote(s: &[u8], place: usize) -> Found
         return Found::Refused(Refusal::ShortFixedPart { needed, present });
     }
     let base = 8 + needed;
-    match ndp_option_list::first_of_type(&s[base..], place + base, REDIRECTED_HEADER) {
+    match ndp_option_list::first_of_type(&s[base..], place + base, REDIRECTED_HEADER, edition) {
         First::Nowhere => Found::Nothing(kind),
         First::At(at, len) => Found::Quote(kind, at + 8, at + len),
         First::Refused(why) => Found::Refused(why),
@@ -98,13 +99,13 @@ fn find_quote(s: &[u8], place: usize) -> Found
 }
 
 // A message whose first byte is at a place, so many quotes deep.
-fn message(s: &[u8], place: usize, level: usize, numbers: &mut [u32; 25]) -> Read
+fn message(s: &[u8], place: usize, level: usize, numbers: &mut [u32; 25], edition: Edition) -> Read
     requires { ⌜ (place + length (now s) < 2 ^ 32) × (level ≤ 8) × (length (now numbers) ≡ 25) ⌝ }
-    ensures answers { λ r. ⌜ readTold r ≡ toldAt (3 * level) (messageAt (8 - level) place (now (s .entry))) ⌝ }
-    ensures lent { λ r. ⌜ Puts (messageAt (8 - level) place (now (s .entry))) (3 * level) (now (numbers .entry)) (now (numbers .exit)) ⌝ }
+    ensures answers { λ r. ⌜ readTold r ≡ toldAt (3 * level) (messageAt edition (8 - level) place (now (s .entry))) ⌝ }
+    ensures lent { λ r. ⌜ Puts (messageAt edition (8 - level) place (now (s .entry))) (3 * level) (now (numbers .entry)) (now (numbers .exit)) ⌝ }
 {
     // Each arm returns: 16 bytes less on the stack for each level.
-    match find_quote(s, place) {
+    match find_quote(s, place, edition) {
         Found::Refused(why) => return Read::Refused(why),
         Found::Nothing(kind) => {
             numbers[3 * level] = wide(kind);
@@ -114,16 +115,16 @@ fn message(s: &[u8], place: usize, level: usize, numbers: &mut [u32; 25]) -> Rea
             numbers[3 * level] = wide(kind);
             let start = from - place;
             let end = to - place;
-            return quote(&s[start..end], from, level, numbers);
+            return quote(&s[start..end], from, level, numbers, edition);
         }
     }
 }
 
 // A quoted packet whose first byte is at a place, with so many quotes above it.
-fn quote(s: &[u8], place: usize, level: usize, numbers: &mut [u32; 25]) -> Read
+fn quote(s: &[u8], place: usize, level: usize, numbers: &mut [u32; 25], edition: Edition) -> Read
     requires { ⌜ (place + length (now s) < 2 ^ 32) × (level ≤ 8) × (length (now numbers) ≡ 25) ⌝ }
-    ensures answers { λ r. ⌜ readTold r ≡ toldAt (3 * level + 1) (quoteAt (8 - level) place (now (s .entry))) ⌝ }
-    ensures lent { λ r. ⌜ Puts (quoteAt (8 - level) place (now (s .entry))) (3 * level + 1) (now (numbers .entry)) (now (numbers .exit)) ⌝ }
+    ensures answers { λ r. ⌜ readTold r ≡ toldAt (3 * level + 1) (quoteAt edition (8 - level) place (now (s .entry))) ⌝ }
+    ensures lent { λ r. ⌜ Puts (quoteAt edition (8 - level) place (now (s .entry))) (3 * level + 1) (now (numbers .entry)) (now (numbers .exit)) ⌝ }
 {
     if level == MOST_LEVELS {
         return Read::Refused(Refusal::DeepQuote { place });
@@ -138,7 +139,13 @@ fn quote(s: &[u8], place: usize, level: usize, numbers: &mut [u32; 25]) -> Read
     numbers[3 * level + 1] = place as u32;
     numbers[3 * level + 2] = wide(next_header);
     if next_header == NEXT_HEADER_ICMPV6 {
-        return message(&s[HEAD_LEN..], place + HEAD_LEN, level + 1, numbers);
+        return message(
+            &s[HEAD_LEN..],
+            place + HEAD_LEN,
+            level + 1,
+            numbers,
+            edition,
+        );
     }
     numbers[3 * level + 3] = 0;
     Read::To(3 * level + 4)
@@ -157,15 +164,15 @@ fn refused(why: Refusal) -> ChainRead
     }
 }
 
-// The chain of a packet.
-pub fn read_chain(packet: &[u8]) -> ChainRead
-    ensures { λ r. ⌜ chainTold r ≡ readOf (now (packet .entry)) ⌝ }
+// The chain of a packet, whose lists are walked in an edition.
+pub fn read_chain(packet: &[u8], edition: Edition) -> ChainRead
+    ensures { λ r. ⌜ chainTold r ≡ readOf edition (now (packet .entry)) ⌝ }
 {
     match packet_length::check_len(packet.len()) {
         PacketLength::Refused(why) => refused(why),
         PacketLength::Fits => {
             let mut numbers = [0u32; 25];
-            match message(packet, 0, 0, &mut numbers) {
+            match message(packet, 0, 0, &mut numbers, edition) {
                 Read::Refused(why) => refused(why),
                 Read::To(to) => ChainRead {
                     answer: ChainAnswer::Whole,

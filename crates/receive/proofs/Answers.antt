@@ -18,6 +18,7 @@ use Rattle.packet_length.proofs.Laws.{Between, sized-fits, fits-or, misfit, ref
 use Rattle.icmpv6_payload_slice.specs.Dispatch.{payloadOf, kindAt, byBytes}
 use Rattle.icmpv6_payload_slice.proofs.Laws.{given-or-4}
 use Rattle.checksum.specs.Icmpv6.{verdictOf}
+use Rattle.ndp_options.specs.declared.Edition.{Edition}
 use Rattle.receive_rules.specs.Reasons.{Reason, firstOf}
 use Rattle.receive.specs.Own.{ownOf}
 use Rattle.receive.specs.Receive.{optionReasons, reasons, reasonOf, notReceived, answerBy}
@@ -53,18 +54,18 @@ dispatch-low packet = by (fits (length packet)) refl
     by false e = let h = misfit (length packet) (payloadOf 8 (kindAt packet) (length packet)) e in omega (arith, h .1)
 
 -- a length that is refused is all that is told of a packet: there is no verdict on it, and no reason
-pub refused-judged : (hops : ℕ) (source destination packet : List ℕ) (why : Refusal) → refusal why ≡ sized (length packet) (gives [])
-    → judgedOf hops source destination packet ≡ record { opened = refusal why; valid = false; reason = 0 }
+pub refused-judged : (ed : Edition) (hops : ℕ) (source destination packet : List ℕ) (why : Refusal) → refusal why ≡ sized (length packet) (gives [])
+    → judgedOf ed hops source destination packet ≡ record { opened = refusal why; valid = false; reason = 0 }
 unfolding byBytes verdictOf reasonOf
-refused-judged hops source destination packet why q =
+refused-judged ed hops source destination packet why q =
     let same = refused (length packet) why q in rw (same, same, refused-misfit (length packet) why q, refusal-numbered why)
 
 -- the hop limit is the first reason
-pub far-reason : (hops : ℕ) (source destination packet : List ℕ)
+pub far-reason : (ed : Edition) (hops : ℕ) (source destination packet : List ℕ)
     → (not (eqb hops 255) && (fits (length packet) && isNdp (getD packet 0 0))) ≡ true
-    → reasonOf hops source destination packet ≡ 1
+    → reasonOf ed hops source destination packet ≡ 1
 unfolding reasonOf reasons firstOf
-far-reason hops source destination packet e =
+far-reason ed hops source destination packet e =
     let some = and-right (not (eqb hops 255)) _ e in
     simp (not-true (eqb hops 255) (and-left (not (eqb hops 255)) _ e), and-left (fits (length packet)) _ some, and-right (fits (length packet)) _ some)
   where
@@ -81,7 +82,7 @@ picked : (P : List Reason → Type 0) {x y : List Reason} (b : Bool) → P x →
 picked P true p q = p
 picked P false p q = q
 
-module _ (hops : ℕ) (source destination packet : List ℕ) where
+module _ (ed : Edition) (hops : ℕ) (source destination packet : List ℕ) where
   own-numbered : (type : ℕ) (listed : Bool) → Numbered (ownOf type source destination packet listed)
   unfolding ownOf
   own-numbered type listed =
@@ -91,7 +92,7 @@ module _ (hops : ℕ) (source destination packet : List ℕ) where
       (picked Numbered (eqb type 136) (omega arith, (omega arith, tt))
       (picked Numbered (eqb type 137) (omega arith, (omega arith, tt)) tt))))
 
-  pub numbered : Numbered (reasons hops source destination packet)
+  pub numbered : Numbered (reasons ed hops source destination packet)
   unfolding reasons optionReasons
   numbered =
       picked Numbered (isNdp (getD packet 0 0))

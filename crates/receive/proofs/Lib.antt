@@ -4,6 +4,7 @@ pub mod Options
 pub mod Theorems
 pub mod Witnesses
 pub mod Whole
+pub mod Editions
 pub mod NotWhole
 pub mod Paper
 pub mod Unique

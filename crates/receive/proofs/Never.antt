@@ -11,9 +11,10 @@ use Rattle.paper.specs.Paper.{refuses}
 use Rattle.message_table.specs.Table.{fixedLen}
 use Rattle.packet_length.specs.Length.{limit, sized}
 use Rattle.icmpv6_payload_slice.specs.Dispatch.{kindAt, partsOf, payloadOf, byBytes}
+use Rattle.ndp_options.specs.declared.Edition.{Edition}
 use Rattle.receive.specs.Receive.{reasonOf, notReceived, receiveOf}
 
-module _ (hops : ℕ) (source destination packet : List ℕ) where
+module _ (ed : Edition) (hops : ℕ) (source destination packet : List ℕ) where
   opened : byBytes packet .number ≡ 22 → ⊥
   unfolding byBytes payloadOf sized
   opened = by (ltb (length packet) 8) (ltb limit (length packet)) (ltb (length packet - 8) (fixedLen (kindAt packet)))
@@ -27,10 +28,10 @@ module _ (hops : ℕ) (source destination packet : List ℕ) where
       by false false true e = omega arith
       by false false false e = omega arith
 
-  pub never-22 : receiveOf hops source destination packet .number ≡ 22 → ⊥
+  pub never-22 : receiveOf ed hops source destination packet .number ≡ 22 → ⊥
   unfolding receiveOf
-  never-22 = by (eqb (reasonOf hops source destination packet) 0)
+  never-22 = by (eqb (reasonOf ed hops source destination packet) 0)
     where
-      by : (z : Bool) → cond z (byBytes packet) (notReceived (reasonOf hops source destination packet)) .number ≡ 22 → ⊥
+      by : (z : Bool) → cond z (byBytes packet) (notReceived (reasonOf ed hops source destination packet)) .number ≡ 22 → ⊥
       by true e = opened e
       by false e = omega arith

@@ -9,6 +9,7 @@ use Rattle.ndp_walk.specs.Judge.{judge}
 use Rattle.ndp_walk.specs.Step.{stepBy}
 use Rattle.ndp_options.specs.Walk.{stepOf}
 use Rattle.ndp_options.specs.Told.{stepTold}
+use Rattle.ndp_options.specs.declared.Edition.{Edition}
 use Rattle.ndp_options.specs.declared.Step.{Step}
 use Rattle.ndp_options.specs.declared.Step.the-variants.{Refused, Stopped}
 use Rattle.ndp_options.proofs.Told.{step-lossless}
@@ -18,10 +19,10 @@ use Rattle.receive.specs.Whole.{isWhole}
 abbrev list : List ℕ
 list = 1 ∷ 0 ∷ []
 
-pub refused-not-whole : (x : Step) → stepTold x ≡ stepOf 0 list 0 → isWhole x ≡ false
+pub refused-not-whole : (ed : Edition) (x : Step) → stepTold x ≡ stepOf ed 0 list 0 → isWhole x ≡ false
 unfolding stepBy judge
-refused-not-whole x e = ap isWhole (step-lossless x (Refused (ZeroLength (record { 0 = 1 }) 0) (record { at = 3 })) (e ∙ refl))
+refused-not-whole ed x e = ap isWhole (step-lossless x (Refused (ZeroLength (record { 0 = 1 }) 0) (record { at = 3 })) (e ∙ refl))
 
-pub stopped-not-whole : (x : Step) → stepTold x ≡ stepOf 0 list 3 → isWhole x ≡ false
+pub stopped-not-whole : (ed : Edition) (x : Step) → stepTold x ≡ stepOf ed 0 list 3 → isWhole x ≡ false
 unfolding stepBy
-stopped-not-whole x e = ap isWhole (step-lossless x Stopped (e ∙ refl))
+stopped-not-whole ed x e = ap isWhole (step-lossless x Stopped (e ∙ refl))

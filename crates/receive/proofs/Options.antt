@@ -13,8 +13,9 @@ use Rattle.refusal.specs.declared.Refusal.{Refusal}
 use Rattle.packet_length.specs.Length.{limit}
 use Rattle.ndp_walk.specs.Walk.{Item, Ending, Clean, RefusedAt, shiftItem}
 use Rattle.ndp_walk.proofs.Placed.{items-from, clean-from}
-use Rattle.ndp_options.specs.Rule.{rule}
+use Rattle.ndp_options.specs.Editions.{ruleBy}
 use Rattle.ndp_options.specs.Walk.{walk}
+use Rattle.ndp_options.specs.declared.Edition.{Edition}
 use Rattle.ndp_options.proofs.Steps.{refuses-some}
 use Rattle.ndp_option_list.specs.Whole.{occurs, occursOf}
 use Rattle.ndp_option_list.specs.Told.{occursTold}
@@ -29,19 +30,19 @@ unfolding occurs
 moved type o [] = refl
 moved type o (i ∷ is) = ap (cond (eqb (i .type) type) true) (moved type o is)
 
-module _ (o : ℕ) (options : List ℕ) (near : o + length options ≤ limit) (x : Occurs) (e : occursTold x ≡ occursOf 1 o options) where
-  pub answers : (b : Bool) → occursTold x ≡ gives (oneIf b ∷ []) → (walk options .ending ≡ Clean) × (occurs 1 (walk options .items) ≡ b)
+module _ (ed : Edition) (o : ℕ) (options : List ℕ) (near : o + length options ≤ limit) (x : Occurs) (e : occursTold x ≡ occursOf ed 1 o options) where
+  pub answers : (b : Bool) → occursTold x ≡ gives (oneIf b ∷ []) → (walk ed options .ending ≡ Clean) × (occurs 1 (walk ed options .items) ≡ b)
   answers b arm =
-      let a = answered o options _ _ (sym arm ∙ e) in
-      let same = ap (occurs 1) (items-from rule o options) ∙ moved 1 o (walk options .items) in
-      (clean-from rule o options .0 (a .1), sym same ∙ one-if-lossless _ b (sym (ap (λ (l : List ℕ). getD l 0 0) (a .2))))
+      let a = answered ed o options _ _ (sym arm ∙ e) in
+      let same = ap (occurs 1) (items-from (ruleBy ed) o options) ∙ moved 1 o (walk ed options .items) in
+      (clean-from (ruleBy ed) o options .0 (a .1), sym same ∙ one-if-lossless _ b (sym (ap (λ (l : List ℕ). getD l 0 0) (a .2))))
 
-  pub not-clean : {why : Refusal} → x ≡ Refused why → isClean (walk options .ending) ≡ false
-  not-clean {why} arm = go (walk options .ending) refl
+  pub not-clean : {why : Refusal} → x ≡ Refused why → isClean (walk ed options .ending) ≡ false
+  not-clean {why} arm = go (walk ed options .ending) refl
     where
-      go : (w : Ending) → walk options .ending ≡ w → isClean w ≡ false
+      go : (w : Ending) → walk ed options .ending ≡ w → isClean w ≡ false
       go Clean c =
           let some = refuses-some why in
-          let z = ap (λ (p : Paper). p .number) (sym (ap occursTold arm) ∙ e ∙ whole o options _ near (clean-from rule o options .1 c)) in
+          let z = ap (λ (p : Paper). p .number) (sym (ap occursTold arm) ∙ e ∙ whole ed o options _ near (clean-from (ruleBy ed) o options .1 c)) in
           absurd (omega arith)
       go (RefusedAt at p) c = refl

@@ -16,6 +16,10 @@ use Rattle.checksum.specs.Icmpv6.{sumOf, withField, checksumOf, verdictOf}
 use Rattle.ndp_walk.specs.Judge.{judge}
 use Rattle.ndp_walk.specs.Walk.{walkOn, walkFrom}
 use Rattle.ndp_options.specs.Rule.{rule}
+use Rattle.ndp_options.specs.Second.{second}
+use Rattle.ndp_options.specs.Editions.{ruleBy}
+use Rattle.ndp_options.specs.declared.Edition.{Edition}
+use Rattle.ndp_options.specs.declared.Edition.the-variants.{First, Second}
 use Rattle.ndp_option_list.specs.Whole.{occurs}
 use Rattle.receive_rules.specs.Reasons.{firstOf}
 use Rattle.receive.specs.Own.{ownOf}
@@ -100,12 +104,24 @@ witnesses =
     ++ (sent far far (message 137 0 (near ++ far)) 6 ∷ sent near far (message 137 0 (far ++ near)) 7 ∷ [])
     ++ (sent far near (message 128 0 []) 0 ∷ came 255 far near (message 128 0 []) 2 ∷ [])
 
-abbrev answerTo : Witness → Paper
-answerTo w = receiveOf (w .hops) (w .source) (w .destination) (w .packet)
+abbrev answerTo : Edition → Witness → Paper
+answerTo e w = receiveOf e (w .hops) (w .source) (w .destination) (w .packet)
 
-pub answered : map answerTo witnesses ≡ map (λ (w : Witness). answerBy (w .packet) (w .reason)) witnesses
-unfolding witnesses receiveOf reasonOf reasons optionReasons firstOf ownOf known byBytes payloadOf sized fixedLen begins sumOf checksumOf verdictOf _⊕_ judge rule walkOn walkFrom occurs
-answered = refl
+abbrev Answered : Edition → List Witness → Type 0
+Answered e ws = map (answerTo e) ws ≡ map (λ (w : Witness). answerBy (w .packet) (w .reason)) ws
+
+-- in either edition, since none has an option of the types that the second adds
+pub answered : Answered First witnesses × Answered Second witnesses
+unfolding witnesses receiveOf reasonOf reasons optionReasons firstOf ownOf known byBytes payloadOf sized fixedLen begins sumOf checksumOf verdictOf _⊕_ judge ruleBy rule second walkOn walkFrom occurs
+answered = (refl, refl)
+
+-- a solicitation whose option is a route of four units, or one with a prefix length of 129: accepted in the first edition, reason 5 in the second
+pub fourUnits : List Witness
+fourUnits = sent near all (message 133 0 (24 ∷ 4 ∷ replicate 30 0)) 0 ∷ sent near all (message 133 0 (24 ∷ 1 ∷ 129 ∷ replicate 5 0)) 0 ∷ []
+
+pub apart : Answered First fourUnits × (map (answerTo Second) fourUnits ≡ notReceived 5 ∷ notReceived 5 ∷ [])
+unfolding fourUnits receiveOf reasonOf reasons optionReasons firstOf ownOf known byBytes payloadOf sized fixedLen begins sumOf checksumOf verdictOf _⊕_ judge ruleBy rule second walkOn walkFrom occurs
+apart = (refl, refl)
 
 -- type and answer of each
 abbrev answersOf : List ℕ → List (List ℕ)
@@ -118,16 +134,18 @@ unfolding witnesses
 complete = refl
 
 -- no check that is constant: the first packet of the table under hop limit 255 and under 254
-pub not-constant : (p : Paper) → ((hops : ℕ) (source destination packet : List ℕ) → receiveOf hops source destination packet ≡ p) → ⊥
-unfolding receiveOf reasonOf reasons optionReasons firstOf ownOf known byBytes payloadOf sized fixedLen begins sumOf checksumOf verdictOf _⊕_ judge rule walkOn walkFrom occurs
-not-constant p same =
+pub not-constant : (e : Edition) (p : Paper) → ((hops : ℕ) (source destination packet : List ℕ) → receiveOf e hops source destination packet ≡ p) → ⊥
+unfolding receiveOf reasonOf reasons optionReasons firstOf ownOf known byBytes payloadOf sized fixedLen begins sumOf checksumOf verdictOf _⊕_ judge ruleBy rule second walkOn walkFrom occurs
+not-constant e p same =
     let packet = sealed near all (message 133 0 option) in
-    let e = sym taken ∙ same 255 near all packet ∙ sym (same 254 near all packet) ∙ left in
-    let z : _≡_ {A = ℕ} 0 11 = ap (λ (q : Paper). q .number) e in
+    let q = sym (taken e) ∙ same 255 near all packet ∙ sym (same 254 near all packet) ∙ left e in
+    let z : _≡_ {A = ℕ} 0 11 = ap (λ (r : Paper). r .number) q in
     omega arith
   where
-    taken : receiveOf 255 near all (sealed near all (message 133 0 option)) ≡ accepted (sealed near all (message 133 0 option))
-    taken = refl
+    taken : (e : Edition) → receiveOf e 255 near all (sealed near all (message 133 0 option)) ≡ accepted (sealed near all (message 133 0 option))
+    taken First = refl
+    taken Second = refl
 
-    left : receiveOf 254 near all (sealed near all (message 133 0 option)) ≡ notReceived 1
-    left = refl
+    left : (e : Edition) → receiveOf e 254 near all (sealed near all (message 133 0 option)) ≡ notReceived 1
+    left First = refl
+    left Second = refl

@@ -13,6 +13,7 @@ use Rattle.checksum.specs.Icmpv6.{verdictOf}
 use Rattle.checksum.specs.Fields.{isValid}
 use Rattle.ndp_walk.specs.Walk.{Ending, Clean, RefusedAt}
 use Rattle.ndp_options.specs.Walk.{walk}
+use Rattle.ndp_options.specs.declared.Edition.{Edition}
 use Rattle.ndp_option_list.specs.Whole.{occurs}
 use Rattle.icmpv6_payload_slice.specs.Dispatch.{optionsIn, partsOf, kindAt, byBytes}
 use Rattle.receive_rules.specs.Reasons.{Reason, reason, firstOf}
@@ -31,25 +32,25 @@ abbrev pub isSound : List ℕ → List ℕ → List ℕ → Bool
 isSound source destination packet = isValid (verdictOf source destination packet)
 
 -- R5, then the type's own of R6 to R8
-unfoldable pub optionReasons : ℕ → List ℕ → List ℕ → List ℕ → List ℕ → List Reason
-optionReasons type options source destination packet =
-    reason 5 (not (isClean (walk options .ending))) ∷ ownOf type source destination packet (occurs 1 (walk options .items))
+unfoldable pub optionReasons : Edition → ℕ → List ℕ → List ℕ → List ℕ → List ℕ → List Reason
+optionReasons e type options source destination packet =
+    reason 5 (not (isClean (walk e options .ending))) ∷ ownOf type source destination packet (occurs 1 (walk e options .items))
 
 -- R1 to R4, and those above; of other types R2 alone
-unfoldable pub reasons : ℕ → List ℕ → List ℕ → List ℕ → List Reason
-reasons hops source destination packet =
+unfoldable pub reasons : Edition → ℕ → List ℕ → List ℕ → List ℕ → List Reason
+reasons e hops source destination packet =
     let type = getD packet 0 0 in
     cond (isNdp type)
     (reason 1 (not (eqb hops 255))
     ∷ reason 2 (not (isSound source destination packet))
     ∷ reason 3 (not (eqb (getD packet 1 0) 0))
     ∷ reason 4 (eqb (byBytes packet .number) 4)
-    ∷ optionReasons type (packetOptions packet) source destination packet)
+    ∷ optionReasons e type (packetOptions packet) source destination packet)
     (reason 2 (not (isSound source destination packet)) ∷ [])
 
 -- the reason, 0 where there is none: of a length that is refused nothing is tested
-unfoldable pub reasonOf : ℕ → List ℕ → List ℕ → List ℕ → ℕ
-reasonOf hops source destination packet = cond (fits (length packet)) (firstOf (reasons hops source destination packet)) 0
+unfoldable pub reasonOf : Edition → ℕ → List ℕ → List ℕ → List ℕ → ℕ
+reasonOf e hops source destination packet = cond (fits (length packet)) (firstOf (reasons e hops source destination packet)) 0
 
 -- what a packet is that is accepted, and where its parts are
 abbrev pub accepted : List ℕ → Paper
@@ -62,5 +63,5 @@ notReceived n = refuses 11 (n ∷ [])
 abbrev pub answerBy : List ℕ → ℕ → Paper
 answerBy packet n = cond (eqb n 0) (byBytes packet) (notReceived n)
 
-unfoldable pub receiveOf : ℕ → List ℕ → List ℕ → List ℕ → Paper
-receiveOf hops source destination packet = answerBy packet (reasonOf hops source destination packet)
+unfoldable pub receiveOf : Edition → ℕ → List ℕ → List ℕ → List ℕ → Paper
+receiveOf e hops source destination packet = answerBy packet (reasonOf e hops source destination packet)

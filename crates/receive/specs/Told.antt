@@ -5,6 +5,7 @@ use mathlib.Core.Bool.{Bool}
 use mathlib.Core.List.{List}
 use Rattle.paper.specs.Paper.{Paper}
 use Rattle.refusal.specs.Paper.{refusal}
+use Rattle.ndp_options.specs.declared.Edition.{Edition}
 use Rattle.icmpv6_payload_slice.specs.Dispatch.{payloadTold, byBytes}
 use Rattle.icmpv6_payload_slice.specs.declared.PayloadRead.the-variants as read
 use Rattle.receive.specs.Receive.{isSound, reasonOf}
@@ -22,9 +23,9 @@ pub record PacketJudgement : Type 0 where
   pub valid : Bool
   pub reason : ℕ
 
-abbrev pub judgedOf : ℕ → List ℕ → List ℕ → List ℕ → PacketJudgement
-judgedOf hops source destination packet =
-    record { opened = byBytes packet; valid = isSound source destination packet; reason = reasonOf hops source destination packet }
+abbrev pub judgedOf : Edition → ℕ → List ℕ → List ℕ → List ℕ → PacketJudgement
+judgedOf e hops source destination packet =
+    record { opened = byBytes packet; valid = isSound source destination packet; reason = reasonOf e hops source destination packet }
 
 abbrev pub packetJudgedTold : Judged → PacketJudgement
 packetJudgedTold j = record { opened = payloadTold (j .opened); valid = j .valid; reason = j .reason }

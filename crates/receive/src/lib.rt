@@ -19,6 +19,7 @@ use message_table::is_ndp;
 use ndp_option_list::Occurs;
 use ndp_option_list::has_type;
 use ndp_options::Cursor;
+use ndp_options::Edition;
 use packet_length::PacketLength;
 use packet_length::check_len;
 use receive_rules::neighbor_advertisement;
@@ -30,7 +31,7 @@ use refusal::NdpOptionType;
 use refusal::Refusal;
 
 pub enum Received {
-    // What the packet is and where its parts are: its options are whole, and are the bytes from `options_at` on.
+    // What the packet is and where its parts are: its options are whole in the edition, and are the bytes from `options_at` on.
     Accepted(Icmpv6PayloadSlice),
     // Refusals 1, 2, or 11 with the first reason that holds.
     Refused(Refusal),
@@ -76,14 +77,15 @@ fn option_reason(
     packet: &[u8],
     source: &[u8; 16],
     destination: &[u8; 16],
+    edition: Edition,
 ) -> u8
     requires { ⌜ (8 ≤ length (now packet)) × (message .«payload_at» ≡ 8) ⌝ }
     requires { ⌜ (message .«options_at» ≤ length (now packet)) × (length (now packet) ≤ 4294967295) ⌝ }
-    ensures { λ r. ⌜ r ≡ firstOf (optionReasons (payloadKindNumber (message .kind)) (drop (message .«options_at») (now (packet .entry))) (now (source .entry)) (now (destination .entry)) (now (packet .entry))) ⌝ }
+    ensures { λ r. ⌜ r ≡ firstOf (optionReasons edition (payloadKindNumber (message .kind)) (drop (message .«options_at») (now (packet .entry))) (now (source .entry)) (now (destination .entry)) (now (packet .entry))) ⌝ }
 {
     let at = message.options_at;
     let start = Cursor { at };
-    match has_type(start.rest(packet), at, NdpOptionType(1)) {
+    match has_type(start.rest(packet), at, NdpOptionType(1), edition) {
         Occurs::Refused(_) => 5,
         Occurs::Yes => own_reason(message, packet, source, destination, true),
         Occurs::No => own_reason(message, packet, source, destination, false),
@@ -98,10 +100,11 @@ fn first_reason(
     hop_limit: u8,
     source: &[u8; 16],
     destination: &[u8; 16],
+    edition: Edition,
 ) -> u8
     requires { ⌜ (8 ≤ length (now packet)) × (length (now packet) ≤ 4294967295) ⌝ }
     requires { ⌜ (payloadTold opened ≡ byBytes (now packet)) × (valid ≡ isSound (now source) (now destination) (now packet)) ⌝ }
-    ensures { λ r. ⌜ r ≡ firstOf (reasons «hop_limit» (now (source .entry)) (now (destination .entry)) (now (packet .entry))) ⌝ }
+    ensures { λ r. ⌜ r ≡ firstOf (reasons edition «hop_limit» (now (source .entry)) (now (destination .entry)) (now (packet .entry))) ⌝ }
 {
     if !is_ndp(packet[0]) {
         return if valid { 0 } else { 2 };
@@ -117,7 +120,9 @@ fn first_reason(
     }
     match opened {
         PayloadRead::Refused(_) => 4,
-        PayloadRead::Payload(message) => option_reason(message, packet, source, destination),
+        PayloadRead::Payload(message) => {
+            option_reason(message, packet, source, destination, edition)
+        }
     }
 }
 
@@ -135,8 +140,14 @@ fn is_far(packet: &[u8], hop_limit: u8) -> bool
 }
 
 // What a packet is that came under a hop limit, from a source to a destination, whether its checksum is right, and the reason not to receive it.
-pub fn judge(packet: &[u8], hop_limit: u8, source: &[u8; 16], destination: &[u8; 16]) -> Judged
-    ensures { λ r. ⌜ packetJudgedTold r ≡ judgedOf «hop_limit» (now (source .entry)) (now (destination .entry)) (now (packet .entry)) ⌝ }
+pub fn judge(
+    packet: &[u8],
+    hop_limit: u8,
+    source: &[u8; 16],
+    destination: &[u8; 16],
+    edition: Edition,
+) -> Judged
+    ensures { λ r. ⌜ packetJudgedTold r ≡ judgedOf edition «hop_limit» (now (source .entry)) (now (destination .entry)) (now (packet .entry)) ⌝ }
 {
     match check_len(packet.len()) {
         PacketLength::Refused(why) => Judged {
@@ -150,7 +161,15 @@ pub fn judge(packet: &[u8], hop_limit: u8, source: &[u8; 16], destination: &[u8;
             Judged {
                 opened,
                 valid,
-                reason: first_reason(opened, valid, packet, hop_limit, source, destination),
+                reason: first_reason(
+                    opened,
+                    valid,
+                    packet,
+                    hop_limit,
+                    source,
+                    destination,
+                    edition,
+                ),
             }
         }
     }
@@ -162,13 +181,14 @@ pub fn receive_check(
     hop_limit: u8,
     source: &[u8; 16],
     destination: &[u8; 16],
+    edition: Edition,
 ) -> Received
-    ensures { λ r. ⌜ receivedTold r ≡ receiveOf «hop_limit» (now (source .entry)) (now (destination .entry)) (now (packet .entry)) ⌝ }
+    ensures { λ r. ⌜ receivedTold r ≡ receiveOf edition «hop_limit» (now (source .entry)) (now (destination .entry)) (now (packet .entry)) ⌝ }
 {
     if is_far(packet, hop_limit) {
         return Received::Refused(Refusal::NotReceived { reason: 1 });
     }
-    let judged = judge(packet, hop_limit, source, destination);
+    let judged = judge(packet, hop_limit, source, destination, edition);
     let reason = judged.reason;
     if reason != 0 {
         return Received::Refused(Refusal::NotReceived { reason });

@@ -5,6 +5,7 @@ use capture::Record;
 use capture::next_record;
 use libc::STDIN_FILENO;
 use libc::STDOUT_FILENO;
+use ndp_options::Edition;
 use receive::Received;
 use receive::receive_check;
 use refusal::Refusal;
@@ -40,7 +41,13 @@ fn answer(records: &[u8], found: Record) {
     let source = capture::address(records, found.source);
     let destination = capture::address(records, found.destination);
     let packet = capture::part(records, found.packet, found.len);
-    print_answer(receive_check(packet, found.hop_limit, &source, &destination));
+    print_answer(receive_check(
+        packet,
+        found.hop_limit,
+        &source,
+        &destination,
+        Edition::First,
+    ));
 }
 
 fn answer_all(records: &[u8]) {

@@ -1,9 +1,9 @@
--- docs/RULES.md N1 to N17 and N22: the number of each refusal and the values that it carries, in this order.
+-- docs/RULES.md N1 to N18 and N22: the number of each refusal and the values that it carries, in this order.
 -- Assumes nothing.
 use Prim.Native.Nat.{ℕ}
 use mathlib.Core.List.{List, [], _∷_}
 use Rattle.refusal.specs.declared.Refusal.{Refusal}
-use Rattle.refusal.specs.declared.Refusal.the-variants.{ShortPacket, LongPacket, LongPayload, ShortFixedPart, UnexpectedSize, ZeroLength, UnexpectedEndOfSlice, UnexpectedHeader, ShortOutput, KnownPair, NotReceived, NoMark, LongRecord, CaptureEnds, ShortQuote, QuoteVersion, DeepQuote, FarOffset}
+use Rattle.refusal.specs.declared.Refusal.the-variants.{ShortPacket, LongPacket, LongPayload, ShortFixedPart, UnexpectedSize, ZeroLength, UnexpectedEndOfSlice, UnexpectedHeader, ShortOutput, KnownPair, NotReceived, NoMark, LongRecord, CaptureEnds, ShortQuote, QuoteVersion, DeepQuote, LongRoutePrefix, FarOffset}
 
 abbrev pub number : Refusal → ℕ
 number (ShortPacket a b) = 1
@@ -23,6 +23,7 @@ number (CaptureEnds a) = 14
 number (ShortQuote a) = 15
 number (QuoteVersion a) = 16
 number (DeepQuote a) = 17
+number (LongRoutePrefix a) = 18
 number FarOffset = 22
 
 abbrev pub values : Refusal → List ℕ
@@ -43,4 +44,5 @@ values (CaptureEnds a) = a ∷ []
 values (ShortQuote a) = a ∷ []
 values (QuoteVersion a) = a ∷ []
 values (DeepQuote a) = a ∷ []
+values (LongRoutePrefix a) = a ∷ []
 values FarOffset = []

@@ -3,6 +3,7 @@ use crate::numbers;
 use crate::numbers::Told;
 use crate::numbers::tell;
 use ndp_options::Cursor;
+use ndp_options::Edition;
 use ndp_options::NdpOption;
 use ndp_options::Step;
 use refusal::Refusal;
@@ -44,7 +45,7 @@ fn is_stopped(input: &[u8], offset: usize, next: Cursor) -> bool {
     if next.rest(input).len() != 0 {
         return false;
     }
-    match next.step(input, offset) {
+    match next.step(input, offset, Edition::First) {
         Step::Stopped => true,
         _ => false,
     }
@@ -61,7 +62,7 @@ fn last(answer: &[u8], w: Walking, t: Told) -> Walking {
 fn step(input: &[u8], offset: usize, answer: &[u8], w: Walking) -> Walking {
     let place = w.place;
     let cursor = Cursor { at: place };
-    match cursor.step(input, offset) {
+    match cursor.step(input, offset, Edition::First) {
         Step::Handed(o, next) => Walking {
             place: next.at,
             met: numbers::met(answer, w.met, handed(input, offset, o, next)),
@@ -117,7 +118,7 @@ fn has_reader(o: NdpOption) -> bool {
 // A step of a walk that is compared up to the first option whose reader the excerpt does not have.
 fn step_to_absent(input: &[u8], offset: usize, answer: &[u8], w: Walking) -> Walking {
     let cursor = Cursor { at: w.place };
-    match cursor.step(input, offset) {
+    match cursor.step(input, offset, Edition::First) {
         Step::Handed(o, _) => {
             if has_reader(o) {
                 return step(input, offset, answer, w);

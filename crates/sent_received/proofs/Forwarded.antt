@@ -18,4 +18,4 @@ use Rattle.sent_received.specs.Forwarded.{Reads, Comes, advertisement}
 
 pub pair : Reads × Comes byDefault (advertisement 0xa5 8) × Comes Clearing (advertisement 0xad 0)
 unfolding begins sized known fixedLen typeOf decodeOf _⊕_ sumOf checksumOf verdictOf payloadOf byBytes walkOn walkFrom occurs firstOf ownOf optionReasons reasons reasonOf receiveOf
-pair = (refl, (refl, refl, refl), (refl, refl, refl))
+pair = (refl, (refl, refl, λ e. refl), (refl, refl, λ e. refl))

@@ -1,4 +1,4 @@
--- A message of Neighbor Discovery that the writer wrote, whichever way, passes the receive check's tests 1 to 5 at hop limit 255: its checksum is computed, its code
+-- A message of Neighbor Discovery that the writer wrote, whichever way, passes the receive check's tests 1 to 5 in the same edition at hop limit 255: its checksum is computed, its code
 -- is 0, its fixed part is there and its options walk clean. What is left are its type's own reasons, which the caller's addresses decide.
 -- Assumes nothing.
 use Prim.Native.Nat.{ℕ, _+_, _≤_}
@@ -18,6 +18,7 @@ use Rattle.icmpv6.specs.Head.{Way}
 use Rattle.checksum.specs.Running.{Bytes}
 use Rattle.checksum.specs.Fields.{isValid}
 use Rattle.ndp_options.specs.Walk.{walk}
+use Rattle.ndp_options.specs.declared.Edition.{Edition}
 use Rattle.ndp_option_list.specs.Whole.{occurs}
 use Rattle.receive_rules.specs.Reasons.{firstOf}
 use Rattle.receive.specs.Own.{ownOf}
@@ -45,7 +46,7 @@ head neighborSolicitation = record { ndp = refl; code = refl; same = refl }
 head (neighborAdvertisement h) = record { ndp = refl; code = refl; same = refl }
 head redirect = record { ndp = refl; code = refl; same = refl }
 
-module _ (w : Way) (header : Icmpv6Header) (is : Ndp (header .«icmp_type»)) (source destination payload out v : List ℕ) (written : writeOf (header .«icmp_type») payload out ≡ gives v)
+module _ (ed : Edition) (w : Way) (header : Icmpv6Header) (is : Ndp (header .«icmp_type»)) (source destination payload out v : List ℕ) (written : writeOf ed (header .«icmp_type») payload out ≡ gives v)
     (fits : Fits (header .«icmp_type»)) (hs : Bytes source) (hd : Bytes destination) (hp : Bytes payload) where
   abbrev t : Icmpv6Type
   t = header .«icmp_type»
@@ -62,14 +63,14 @@ module _ (w : Way) (header : Icmpv6Header) (is : Ndp (header .«icmp_type»)) (s
       ∙ same-options (kindNumber t) packet (omega (arith, n))
       ∙ ap (optionsIn 0 (kindNumber t)) (payload-kept w source destination header payload)
 
-  pub received : receiveOf 255 source destination packet ≡ answerBy packet (firstOf (ownOf (typeNumber t) source destination packet (occurs 1 (walk (payloadOptions t payload) .items))))
+  pub received : receiveOf ed 255 source destination packet ≡ answerBy packet (firstOf (ownOf (typeNumber t) source destination packet (occurs 1 (walk ed (payloadOptions t payload) .items))))
   received =
-      let ok = accepted t payload out v written in
+      let ok = accepted ed t payload out v written in
       let h = head is in
       let n = length-is w source destination header payload in
       let within : Between (length packet) = record { low = omega (arith, n); high = omega (arith, n, ok .within) } in
       let some : fixedLen (typeNumber t) ≤ length payload = rw (h .same) at (ok .present) in
       let there : 8 + fixedLen (typeNumber t) ≤ length packet = omega (arith, n) in
-      own-alone 255 source destination packet within (h .ndp) refl (ap isValid (validates w source destination header payload fits (ok .named) (ok .within) hp hs hd)) (h .code) there
-      (ap (λ (l : List ℕ). walk l .ending) options-found ∙ ok .walks)
-      ∙ ap (λ (l : List ℕ). answerBy packet (firstOf (ownOf (typeNumber t) source destination packet (occurs 1 (walk l .items))))) options-found
+      own-alone ed 255 source destination packet within (h .ndp) refl (ap isValid (validates w source destination header payload fits (ok .named) (ok .within) hp hs hd)) (h .code) there
+      (ap (λ (l : List ℕ). walk ed l .ending) options-found ∙ ok .walks)
+      ∙ ap (λ (l : List ℕ). answerBy packet (firstOf (ownOf (typeNumber t) source destination packet (occurs 1 (walk ed l .items))))) options-found

@@ -9,6 +9,7 @@ use Rattle.paper.specs.Paper.{gives}
 use Rattle.icmpv6.specs.Head.{Way, decodeOf, headerTold}
 use Rattle.checksum.specs.Icmpv6.{verdictOf, valid}
 use Rattle.icmpv6_checksum.specs.Mixed.{headed}
+use Rattle.ndp_options.specs.declared.Edition.{Edition}
 use Rattle.receive.specs.Receive.{receiveOf, accepted}
 use Rattle.writer.specs.Write.{packetBy}
 
@@ -29,9 +30,9 @@ advertisement low flags = 0x86 ∷ 0 ∷ 0x32 ∷ low ∷ 0x40 ∷ flags ∷ 0x0
 abbrev pub Reads : Type 0
 Reads = decodeOf (advertisement 0xa5 8) ≡ gives (headerTold (headed 0x32a5))
 
--- written again by a way it is this packet, which validates and is received
+-- written again by a way it is this packet, which validates and is received in either edition
 abbrev pub Comes : Way → List ℕ → Type 0
 Comes w packet =
     (packetBy w router everyone (headed 0x32a5) (drop 8 (advertisement 0xa5 8)) ≡ packet)
     × (verdictOf router everyone packet ≡ valid)
-    × (receiveOf 255 router everyone packet ≡ accepted packet)
+    × ((e : Edition) → receiveOf e 255 router everyone packet ≡ accepted packet)

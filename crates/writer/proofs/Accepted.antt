@@ -20,8 +20,9 @@ use Rattle.icmpv6_payload_slice.proofs.Laws.{short, whole, options-within}
 use Rattle.packet_length.specs.Length.{limit}
 use Rattle.ndp_walk.specs.Walk.{Clean}
 use Rattle.ndp_walk.proofs.Placed.{clean-from}
-use Rattle.ndp_options.specs.Rule.{rule}
+use Rattle.ndp_options.specs.Editions.{ruleBy}
 use Rattle.ndp_options.specs.Walk.{walk}
+use Rattle.ndp_options.specs.declared.Edition.{Edition}
 use Rattle.ndp_option_list.specs.Whole.{countOf}
 use Rattle.ndp_option_list.proofs.Whole.{answered, whole as whole-list}
 use Rattle.output.specs.Output.{roomFor}
@@ -34,7 +35,7 @@ use Rattle.writer.proofs.Laws.{rest, fitting}
 never : {A : Type 0} {p : Paper} {v : List ℕ} → 0 < p .number → p ≡ gives v → A
 never h q = absurd (let z = ap (λ (x : Paper). x .number) q in omega arith)
 
-module _ (t : Icmpv6Type) (s out v : List ℕ) where
+module _ (ed : Edition) (t : Icmpv6Type) (s out v : List ℕ) where
   -- the last test
   last : roomFor (8 + length s) out 0 ≡ gives v → 8 + length s ≤ length out
   last q = elim (decLe (8 + length s) (length out)) [
@@ -43,30 +44,30 @@ module _ (t : Icmpv6Type) (s out v : List ℕ) where
   ]
 
   -- the walk
-  walked : (p : Paper) → countOf (optionsPlace t s) (payloadOptions t s) ≡ p → ((p orElse gives []) orElse roomFor (8 + length s) out 0) ≡ gives v → (walk (payloadOptions t s) .ending ≡ Clean) × (8 + length s ≤ length out)
+  walked : (p : Paper) → countOf ed (optionsPlace t s) (payloadOptions t s) ≡ p → ((p orElse gives []) orElse roomFor (8 + length s) out 0) ≡ gives v → (walk ed (payloadOptions t s) .ending ≡ Clean) × (8 + length s ≤ length out)
   walked p e q = elim (ℕ-discrete (p .number) 0) [
     | yes z ↦
         let given : p ≡ gives (p .values) = ap (λ (n : ℕ). refuses n (p .values)) z in
-        let clean = answered (optionsPlace t s) (payloadOptions t s) (p .values) (λ is. length is ∷ []) (sym given ∙ sym e) .1 in
-        (clean-from rule (optionsPlace t s) (payloadOptions t s) .0 clean, last (simp (eq-eqb (p .number) 0 z) at q))
+        let clean = answered ed (optionsPlace t s) (payloadOptions t s) (p .values) (λ is. length is ∷ []) (sym given ∙ sym e) .1 in
+        (clean-from (ruleBy ed) (optionsPlace t s) (payloadOptions t s) .0 clean, last (simp (eq-eqb (p .number) 0 z) at q))
     | no z ↦
         let some = ne-eqb (p .number) 0 z in
         let first : ((p orElse gives []) orElse roomFor (8 + length s) out 0) ≡ p = simp some in
         never {p = p} (omega arith) (sym first ∙ q)
   ]
 
-  pub accepted : writeOf t s out ≡ gives v → Accepted t s out
+  pub accepted : writeOf ed t s out ≡ gives v → Accepted ed t s out
   unfolding sendableOf
   accepted = by (misnamed t) (ltb 65527 (length s)) refl refl
     where
       by : (a b : Bool) → misnamed t ≡ a → ltb 65527 (length s) ≡ b →
-          (cond a (refuses 10 (typeNumber t ∷ codeNumber t ∷ [])) (cond b (refuses 3 (65527 ∷ length s ∷ [])) (byValue t s orElse (countOf (optionsPlace t s) (payloadOptions t s) orElse gives []))) orElse roomFor (8 + length s) out 0) ≡ gives v →
-          Accepted t s out
+          (cond a (refuses 10 (typeNumber t ∷ codeNumber t ∷ [])) (cond b (refuses 3 (65527 ∷ length s ∷ [])) (byValue t s orElse (countOf ed (optionsPlace t s) (payloadOptions t s) orElse gives []))) orElse roomFor (8 + length s) out 0) ≡ gives v →
+          Accepted ed t s out
       by true b e f q = never {p = refuses 10 (typeNumber t ∷ codeNumber t ∷ [])} (lit< tt) q
       by false true e f q = never {p = refuses 3 (65527 ∷ length s ∷ [])} (lit< tt) q
       by false false e f q = elim (decLe (fixedLen (kindNumber t)) (length s)) [
         | yes h ↦
-            let w = walked (countOf (optionsPlace t s) (payloadOptions t s)) refl (rw (whole 0 (kindNumber t) (length s) (omega arith)) at q) in
+            let w = walked (countOf ed (optionsPlace t s) (payloadOptions t s)) refl (rw (whole 0 (kindNumber t) (length s) (omega arith)) at q) in
             record { named = e; within = ltb-false 65527 (length s) f; present = h; walks = w .0; room = omega (arith, w .1) }
         | no h ↦ never {p = refuses 4 (fixedLen (kindNumber t) ∷ (length s - 0) ∷ [])} (lit< tt) (rw (short 0 (kindNumber t) (length s) (omega arith)) at q)
       ]
@@ -76,9 +77,9 @@ pub near : (t : Icmpv6Type) (s : List ℕ) → fixedLen (kindNumber t) ≤ lengt
 near t s present within = let h = options-within 0 (kindNumber t) (length s) (omega arith) (omega arith) in omega (arith, length-drop (optionsAt 0 (kindNumber t) (length s)) s)
 
 -- and it writes whatever is so
-pub writes : (t : Icmpv6Type) (s out : List ℕ) → Accepted t s out → writeOf t s out ≡ gives ((8 + length s) ∷ [])
-writes t s out ok =
-    let clean = clean-from rule (optionsPlace t s) (payloadOptions t s) .1 (ok .walks) in
-    let counted = whole-list (optionsPlace t s) (payloadOptions t s) (λ is. length is ∷ []) (near t s (ok .present) (ok .within)) clean in
-    let passed : sendableOf t s ≡ gives [] = rest t s (ok .named) (ok .within) ∙ rw (whole 0 (kindNumber t) (length s) (omega (arith, ok .present)), counted) in
-    fitting t s out (sym passed) (ok .room)
+pub writes : (ed : Edition) (t : Icmpv6Type) (s out : List ℕ) → Accepted ed t s out → writeOf ed t s out ≡ gives ((8 + length s) ∷ [])
+writes ed t s out ok =
+    let clean = clean-from (ruleBy ed) (optionsPlace t s) (payloadOptions t s) .1 (ok .walks) in
+    let counted = whole-list ed (optionsPlace t s) (payloadOptions t s) (λ is. length is ∷ []) (near t s (ok .present) (ok .within)) clean in
+    let passed : sendableOf ed t s ≡ gives [] = rest ed t s (ok .named) (ok .within) ∙ rw (whole 0 (kindNumber t) (length s) (omega (arith, ok .present)), counted) in
+    fitting ed t s out (sym passed) (ok .room)

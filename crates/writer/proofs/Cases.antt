@@ -19,6 +19,10 @@ use Rattle.icmpv6_payload_slice.specs.Dispatch.{payloadOf}
 use Rattle.ndp_walk.specs.Judge.{judge}
 use Rattle.ndp_walk.specs.Walk.{walkOn, walkFrom}
 use Rattle.ndp_options.specs.Rule.{rule}
+use Rattle.ndp_options.specs.Second.{second}
+use Rattle.ndp_options.specs.Editions.{ruleBy}
+use Rattle.ndp_options.specs.declared.Edition.{Edition}
+use Rattle.ndp_options.specs.declared.Edition.the-variants.{First, Second}
 use Rattle.ndp_option_list.specs.Whole.{wholeOf}
 use Rattle.output.specs.Output.{roomFor, over}
 use Rattle.writer.specs.Write.{sendableOf, writeOf, outputBy}
@@ -31,10 +35,13 @@ abbrev zeros : ℕ → List ℕ
 zeros n = replicate n 0
 
 -- number and values of the answer, then the output
+abbrev writtenBy : Edition → Icmpv6Type → List ℕ → List ℕ → List ℕ
+writtenBy e t payload out =
+    let answer = writeOf e t payload out in
+    answer .number ∷ (answer .values ++ outputBy e byDefault (madeOf t) router everyone payload out)
+
 abbrev written : Icmpv6Type → List ℕ → List ℕ → List ℕ
-written t payload out =
-    let answer = writeOf t payload out in
-    answer .number ∷ (answer .values ++ outputBy byDefault (madeOf t) router everyone payload out)
+written = writtenBy First
 
 abbrev case : List ℕ → List ℕ → Case
 case got wanted = record { got = got; wanted = wanted }
@@ -68,8 +75,12 @@ cases =
     ∷ case (written RouterSolicitation (option ++ 1 ∷ []) (9 ∷ [])) (5 ∷ 1 ∷ 2 ∷ 1 ∷ 16 ∷ 9 ∷ [])
     -- refusal 9
     ∷ case (written RouterSolicitation option (zeros 15)) (9 ∷ 16 ∷ zeros 15)
+    -- a route of four units, and one with a prefix length of 129, before 9: written in the first edition, and refused in the second
+    ∷ case (written RouterSolicitation (24 ∷ 4 ∷ zeros 30) (9 ∷ [])) (9 ∷ 40 ∷ 9 ∷ [])
+    ∷ case (writtenBy Second RouterSolicitation (24 ∷ 4 ∷ zeros 30) (9 ∷ [])) (5 ∷ 24 ∷ 24 ∷ 32 ∷ 8 ∷ 9 ∷ [])
+    ∷ case (writtenBy Second RouterSolicitation (option ++ 24 ∷ 1 ∷ 129 ∷ zeros 5) (9 ∷ [])) (18 ∷ 16 ∷ 9 ∷ [])
     ∷ []
 
 pub right : map (λ (k : Case). k .got) cases ≡ map (λ (k : Case). k .wanted) cases
-unfolding sendableOf payloadOf roomFor over known fixedLen sumOf checksumOf _⊕_ judge rule walkOn walkFrom wholeOf
+unfolding sendableOf payloadOf roomFor over known fixedLen sumOf checksumOf _⊕_ judge ruleBy rule second walkOn walkFrom wholeOf
 right = refl

@@ -20,6 +20,7 @@ use Rattle.icmpv6_payload_slice.specs.declared.Icmpv6PayloadSlice.{Icmpv6Payloa
 use Rattle.icmpv6_payload_slice.specs.declared.PayloadRead.the-variants.{Payload}
 use Rattle.icmpv6_payload_slice.specs.Dispatch.{payloadTold, byValue}
 use Rattle.icmpv6_payload_slice.proofs.Opened.{placed}
+use Rattle.ndp_options.specs.declared.Edition.{Edition}
 use Rattle.ndp_option_list.specs.Whole.{countOf}
 use Rattle.writer.specs.Write.{_orElse_, payloadOptions, optionsPlace, sendableOf, writeOf}
 use Rattle.output.specs.Output.{leaves}
@@ -30,32 +31,6 @@ pub refused-first : (why : Refusal) (b : Paper) → (refusal why orElse b) ≡ r
 refused-first why b = rw (refusal-numbered why)
 
 module _ (t : Icmpv6Type) (s : List ℕ) where
-  pub known-pair : misnamed t ≡ true → sendableOf t s ≡ refuses 10 (typeNumber t ∷ codeNumber t ∷ [])
-  unfolding sendableOf
-  known-pair e = rw e
-
-  module _ (named : misnamed t ≡ false) where
-    pub long : 65527 < length s → sendableOf t s ≡ refuses 3 (65527 ∷ length s ∷ [])
-    unfolding sendableOf
-    long h = rw (named, lt-ltb 65527 (length s) h)
-
-    module _ (some : length s ≤ 65527) where
-      pub rest : sendableOf t s ≡ (byValue t s orElse (countOf (optionsPlace t s) (payloadOptions t s) orElse gives []))
-      unfolding sendableOf
-      rest = rw (named, le-ltb 65527 (length s) some)
-
-      -- refusal 4
-      pub no-fixed-part : (why : Refusal) → refusal why ≡ byValue t s → sendableOf t s ≡ refusal why
-      no-fixed-part why e = rest ∙ rw (← e) (refused-first why _)
-
-      -- the fixed part is there: the walk of the options decides
-      module _ (m : Icmpv6PayloadSlice) (given : payloadTold (Payload m) ≡ byValue t s) (n : ℕ) where
-        pub no-clean-walk : (why : Refusal) → refusal why ≡ countOf (optionsPlace t s) (payloadOptions t s) → sendableOf t s ≡ refusal why
-        no-clean-walk why e = rest ∙ rw (← given, ← e) (refused-first why _)
-
-        pub clean : gives (n ∷ []) ≡ countOf (optionsPlace t s) (payloadOptions t s) → sendableOf t s ≡ gives []
-        clean e = rest ∙ rw (← given, ← e)
-
   -- what was dispatched says where the options are
   pub record Dispatched (m : Icmpv6PayloadSlice) : Type 0 where
     pub within : m .«options_at» ≤ length s
@@ -67,26 +42,53 @@ module _ (t : Icmpv6Type) (s : List ℕ) where
       let h = placed 0 (kindNumber t) (length s) {m = m} (omega arith) e in
       record { within = h .within; options = ap (λ (i : ℕ). drop i s) (h .options); place = ap (λ (i : ℕ). 8 + i) (h .options) }
 
+module _ (ed : Edition) (t : Icmpv6Type) (s : List ℕ) where
+  pub known-pair : misnamed t ≡ true → sendableOf ed t s ≡ refuses 10 (typeNumber t ∷ codeNumber t ∷ [])
+  unfolding sendableOf
+  known-pair e = rw e
+
+  module _ (named : misnamed t ≡ false) where
+    pub long : 65527 < length s → sendableOf ed t s ≡ refuses 3 (65527 ∷ length s ∷ [])
+    unfolding sendableOf
+    long h = rw (named, lt-ltb 65527 (length s) h)
+
+    module _ (some : length s ≤ 65527) where
+      pub rest : sendableOf ed t s ≡ (byValue t s orElse (countOf ed (optionsPlace t s) (payloadOptions t s) orElse gives []))
+      unfolding sendableOf
+      rest = rw (named, le-ltb 65527 (length s) some)
+
+      -- refusal 4
+      pub no-fixed-part : (why : Refusal) → refusal why ≡ byValue t s → sendableOf ed t s ≡ refusal why
+      no-fixed-part why e = rest ∙ rw (← e) (refused-first why _)
+
+      -- the fixed part is there: the walk of the options decides
+      module _ (m : Icmpv6PayloadSlice) (given : payloadTold (Payload m) ≡ byValue t s) (n : ℕ) where
+        pub no-clean-walk : (why : Refusal) → refusal why ≡ countOf ed (optionsPlace t s) (payloadOptions t s) → sendableOf ed t s ≡ refusal why
+        no-clean-walk why e = rest ∙ rw (← given, ← e) (refused-first why _)
+
+        pub clean : gives (n ∷ []) ≡ countOf ed (optionsPlace t s) (payloadOptions t s) → sendableOf ed t s ≡ gives []
+        clean e = rest ∙ rw (← given, ← e)
+
   -- what passed every test is within the limit
-  pub within : gives [] ≡ sendableOf t s → length s ≤ 65527
+  pub within : gives [] ≡ sendableOf ed t s → length s ≤ 65527
   unfolding sendableOf
   within = by (misnamed t) (ltb 65527 (length s)) refl
     where
-      by : (a b : Bool) → ltb 65527 (length s) ≡ b → gives [] ≡ cond a (refuses 10 (typeNumber t ∷ codeNumber t ∷ [])) (cond b (refuses 3 (65527 ∷ length s ∷ [])) (byValue t s orElse (countOf (optionsPlace t s) (payloadOptions t s) orElse gives []))) → length s ≤ 65527
+      by : (a b : Bool) → ltb 65527 (length s) ≡ b → gives [] ≡ cond a (refuses 10 (typeNumber t ∷ codeNumber t ∷ [])) (cond b (refuses 3 (65527 ∷ length s ∷ [])) (byValue t s orElse (countOf ed (optionsPlace t s) (payloadOptions t s) orElse gives []))) → length s ≤ 65527
       by true b f q = absurd (let z : _≡_ {A = ℕ} 0 10 = ap (λ (p : Paper). p .number) q in omega arith)
       by false true f q = absurd (let z : _≡_ {A = ℕ} 0 3 = ap (λ (p : Paper). p .number) q in omega arith)
       by false false f q = ltb-false 65527 (length s) f
 
 -- and then the output
-module _ (t : Icmpv6Type) (s out : List ℕ) where
-  pub refused-write : (why : Refusal) → refusal why ≡ sendableOf t s → writeOf t s out ≡ refusal why
+module _ (ed : Edition) (t : Icmpv6Type) (s out : List ℕ) where
+  pub refused-write : (why : Refusal) → refusal why ≡ sendableOf ed t s → writeOf ed t s out ≡ refusal why
   refused-write why e = rw (← e) (refused-first why _)
 
-  module _ (passed : gives [] ≡ sendableOf t s) where
-    pub narrow : length out < 8 + length s → writeOf t s out ≡ refuses 9 ((8 + length s) ∷ [])
+  module _ (passed : gives [] ≡ sendableOf ed t s) where
+    pub narrow : length out < 8 + length s → writeOf ed t s out ≡ refuses 9 ((8 + length s) ∷ [])
     narrow h = rw (← passed) (no-room (8 + length s) out 0 (omega arith))
 
-    pub fitting : 8 + length s ≤ length out → writeOf t s out ≡ gives ((8 + length s) ∷ [])
+    pub fitting : 8 + length s ≤ length out → writeOf ed t s out ≡ gives ((8 + length s) ∷ [])
     fitting h = rw (← passed) (there-is-room (8 + length s) out 0 (omega arith) ∙ simp zero-add)
 
 pub refused-leaves : (why : Refusal) (out bytes : List ℕ) → out ≡ leaves (refusal why) out 0 bytes

@@ -18,6 +18,7 @@ use Rattle.checksum.specs.Icmpv6.{checksumOf, withField, verdictOf, valid}
 use Rattle.checksum.proofs.Packets.{withField-append}
 use Rattle.checksum.proofs.Sums.{below-of, below-at, below-set}
 use Rattle.checksum.proofs.Validity.{computed-validates}
+use Rattle.ndp_options.specs.declared.Edition.{Edition}
 use Rattle.output.specs.declared.Written.{Written}
 use Rattle.output.specs.Output.{writtenTold}
 use Rattle.writer.specs.Write.{writeOf, packetBy, outputBy, Holds}
@@ -44,13 +45,13 @@ module _ (source destination p : List ℕ) (low : 8 ≤ length p) (high : length
   unchanged e = passed-on ∙ ap (withField p) (sym e) ∙ own-field p low bytes
 
   -- by the default, in the output: the packet with its checksum computed anew, and behind it what stood there; where it refuses, all as it was
-  module _ (out left : List ℕ) (lent : left ≡ outputBy byDefault h source destination (drop 8 p) out) (r : Written) (told : writtenTold r ≡ writeOf (h .«icmp_type») (drop 8 p) out) where
+  module _ (ed : Edition) (out left : List ℕ) (lent : left ≡ outputBy ed byDefault h source destination (drop 8 p) out) (r : Written) (told : writtenTold r ≡ writeOf ed (h .«icmp_type») (drop 8 p) out) where
     pub forwarded : Holds r (withField p (checksumOf source destination p)) out left
-    forwarded = subst (λ (l : List ℕ). Holds r l out left) passed-on (sent byDefault source destination h (drop 8 p) out left lent r told)
+    forwarded = subst (λ (l : List ℕ). Holds r l out left) passed-on (sent ed byDefault source destination h (drop 8 p) out left lent r told)
 
     -- the packet itself, where its field was the computed one
     pub forwarded-whole : checksumAt p ≡ checksumOf source destination p → Holds r p out left
-    forwarded-whole e = subst (λ (l : List ℕ). Holds r l out left) (unchanged e) (sent byDefault source destination h (drop 8 p) out left lent r told)
+    forwarded-whole e = subst (λ (l : List ℕ). Holds r l out left) (unchanged e) (sent ed byDefault source destination h (drop 8 p) out left lent r told)
 
   -- it comes out valid, as it may have come in
   pub forwarded-valid : Bytes source → Bytes destination → verdictOf source destination (packetBy byDefault source destination h (drop 8 p)) ≡ valid

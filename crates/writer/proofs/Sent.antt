@@ -26,6 +26,7 @@ use Rattle.checksum.proofs.Sums.{below-append, below-at}
 use Rattle.icmpv6_checksum.specs.Header.{withSum}
 use Rattle.icmpv6_checksum.proofs.Bytes.{head-bytes, eight}
 use Rattle.icmpv6_checksum.proofs.Validity as header
+use Rattle.ndp_options.specs.declared.Edition.{Edition}
 use Rattle.output.specs.declared.Written.{Written}
 use Rattle.output.specs.declared.Written.the-variants.{To, Refused}
 use Rattle.output.specs.Output.{writtenTold, leaves}
@@ -98,12 +99,12 @@ none-sent source destination h payload (suc (suc (suc zero))) j n r = none-writt
 none-sent source destination h payload (suc (suc (suc (suc i)))) j n r = absurd (omega arith)
 
 -- what the writer leaves in the output, by its answer
-module _ (w : Way) (source destination : List ℕ) (h : Icmpv6Header) (payload out left : List ℕ) (lent : left ≡ outputBy w h source destination payload out) where
-  pub sent : (r : Written) → writtenTold r ≡ writeOf (h .«icmp_type») payload out → Holds r (packetBy w source destination h payload) out left
+module _ (ed : Edition) (w : Way) (source destination : List ℕ) (h : Icmpv6Header) (payload out left : List ℕ) (lent : left ≡ outputBy ed w h source destination payload out) where
+  pub sent : (r : Written) → writtenTold r ≡ writeOf ed (h .«icmp_type») payload out → Holds r (packetBy w source destination h payload) out left
   sent (To n) e =
       let bytes = packetBy w source destination h payload in
-      let ok = accepted (h .«icmp_type») payload out (n ∷ []) (sym e) in
-      let told : n ≡ length bytes = ap (value 0) (e ∙ writes (h .«icmp_type») payload out ok) ∙ sym (length-is w source destination h payload) in
+      let ok = accepted ed (h .«icmp_type») payload out (n ∷ []) (sym e) in
+      let told : n ≡ length bytes = ap (value 0) (e ∙ writes ed (h .«icmp_type») payload out ok) ∙ sym (length-is w source destination h payload) in
       let holds : left ≡ bytes ++ drop (length bytes) out = lent ∙ rw (← e) (over-start out bytes) in
       (told, rw (told, holds) (take-append-seam bytes (drop (length bytes) out)), rw (told, holds) (drop-append-seam bytes (drop (length bytes) out)))
   sent (Refused why) e = lent ∙ rw (← e) (sym (refused-leaves why out (packetBy w source destination h payload)))

@@ -15,6 +15,7 @@ use Rattle.icmpv6.specs.declared.icmpv6_header.Icmpv6Header.{Icmpv6Header}
 use Rattle.icmpv6.specs.Head.{Way, encodeBy}
 use Rattle.icmpv6_checksum.specs.Header.{withSum}
 use Rattle.icmpv6_payload_slice.specs.Dispatch.{optionsAt, optionsIn, byValue}
+use Rattle.ndp_options.specs.declared.Edition.{Edition}
 use Rattle.ndp_option_list.specs.Whole.{countOf}
 use Rattle.output.specs.declared.Written.{Written}
 use Rattle.output.specs.declared.Written.the-variants as output
@@ -35,16 +36,16 @@ payloadOptions t payload = optionsIn 0 (kindNumber t) payload
 abbrev pub optionsPlace : Icmpv6Type → List ℕ → ℕ
 optionsPlace t payload = 8 + optionsAt 0 (kindNumber t) (length payload)
 
--- refusals 10 and 3, the dispatch's 4, the walk's 5 to 7
-unfoldable pub sendableOf : Icmpv6Type → List ℕ → Paper
-sendableOf t payload =
+-- refusals 10 and 3, the dispatch's 4, the walk's 5 to 7 and 18
+unfoldable pub sendableOf : Edition → Icmpv6Type → List ℕ → Paper
+sendableOf e t payload =
     cond (misnamed t) (refuses 10 (typeNumber t ∷ codeNumber t ∷ []))
     (cond (ltb 65527 (length payload)) (refuses 3 (65527 ∷ length payload ∷ []))
-    (byValue t payload orElse (countOf (optionsPlace t payload) (payloadOptions t payload) orElse gives [])))
+    (byValue t payload orElse (countOf e (optionsPlace t payload) (payloadOptions t payload) orElse gives [])))
 
 -- and 9, or the length
-abbrev pub writeOf : Icmpv6Type → List ℕ → List ℕ → Paper
-writeOf t payload out = sendableOf t payload orElse roomFor (8 + length payload) out 0
+abbrev pub writeOf : Edition → Icmpv6Type → List ℕ → List ℕ → Paper
+writeOf e t payload out = sendableOf e t payload orElse roomFor (8 + length payload) out 0
 
 -- the head that a way writes of a header, with the checksum of the bytes that it writes; the header's own field is not looked at
 abbrev pub sealedHead : Way → List ℕ → List ℕ → Icmpv6Header → List ℕ → List ℕ
@@ -55,9 +56,9 @@ abbrev pub packetBy : Way → List ℕ → List ℕ → Icmpv6Header → List �
 packetBy w source destination h payload = sealedHead w source destination h payload ++ payload
 
 -- what the output then holds: the packet at its start, or what it held before
-abbrev pub outputBy : Way → Icmpv6Header → List ℕ → List ℕ → List ℕ → List ℕ → List ℕ
-outputBy w h source destination payload out =
-    leaves (writeOf (h .«icmp_type») payload out) out 0 (packetBy w source destination h payload)
+abbrev pub outputBy : Edition → Way → Icmpv6Header → List ℕ → List ℕ → List ℕ → List ℕ → List ℕ
+outputBy e w h source destination payload out =
+    leaves (writeOf e (h .«icmp_type») payload out) out 0 (packetBy w source destination h payload)
 
 abbrev pub sendableTold : Sendable → Paper
 sendableTold Yes = gives []

@@ -11,6 +11,7 @@ use icmpv6_payload_slice::PayloadRead;
 use icmpv6_type::Icmpv6Type;
 use ndp_option_list::Counted;
 use ndp_options::Cursor;
+use ndp_options::Edition;
 use output::Written;
 use refusal::Refusal;
 
@@ -34,10 +35,10 @@ fn names_known_pair(icmp_type: Icmpv6Type) -> bool
     }
 }
 
-// Refusals 10, 3, 4, and the walk's 5 to 7, in this order (docs/RULES.md T2). A kind without a fixed part lacks none of it, and one without
+// Refusals 10, 3, 4, and the walk's 5 to 7 and 18, in this order (docs/RULES.md T2). A kind without a fixed part lacks none of it, and one without
 // options walks clean.
-fn check(icmp_type: Icmpv6Type, payload: &[u8]) -> Sendable
-    ensures { λ r. ⌜ sendableTold r ≡ sendableOf «icmp_type» (now (payload .entry)) ⌝ }
+fn check(icmp_type: Icmpv6Type, payload: &[u8], edition: Edition) -> Sendable
+    ensures { λ r. ⌜ sendableTold r ≡ sendableOf edition «icmp_type» (now (payload .entry)) ⌝ }
 {
     if names_known_pair(icmp_type) {
         return Sendable::Refused(Refusal::KnownPair {
@@ -61,7 +62,7 @@ fn check(icmp_type: Icmpv6Type, payload: &[u8]) -> Sendable
             };
             // Their place in the packet: behind the head too.
             let place = 8 + part.options_at;
-            match ndp_option_list::count(start.rest(payload), place) {
+            match ndp_option_list::count(start.rest(payload), place, edition) {
                 Counted::All(_) => Sendable::Yes,
                 Counted::Refused(why) => Sendable::Refused(why),
             }
@@ -77,12 +78,13 @@ fn write_kept(
     destination: &[u8; 16],
     payload: &[u8],
     out: &mut [u8],
+    edition: Edition,
 ) -> Written
-    ensures answers { λ r. ⌜ writtenTold r ≡ writeOf (header .«icmp_type») (now (payload .entry)) (now (out .entry)) ⌝ }
-    ensures lent { λ r. ⌜ now (out .exit) ≡ outputBy Keeping header (now (source .entry)) (now (destination .entry)) (now (payload .entry)) (now (out .entry)) ⌝ }
+    ensures answers { λ r. ⌜ writtenTold r ≡ writeOf edition (header .«icmp_type») (now (payload .entry)) (now (out .entry)) ⌝ }
+    ensures lent { λ r. ⌜ now (out .exit) ≡ outputBy edition Keeping header (now (source .entry)) (now (destination .entry)) (now (payload .entry)) (now (out .entry)) ⌝ }
 {
     let icmp_type = header.icmp_type;
-    match check(icmp_type, payload) {
+    match check(icmp_type, payload, edition) {
         Sendable::Refused(why) => Written::Refused(why),
         Sendable::Yes => {
             let needed = 8 + payload.len();
@@ -112,9 +114,10 @@ pub fn write_packet_clearing(
     destination: &[u8; 16],
     payload: &[u8],
     out: &mut [u8],
+    edition: Edition,
 ) -> Written
-    ensures answers { λ r. ⌜ writtenTold r ≡ writeOf (header .«icmp_type») (now (payload .entry)) (now (out .entry)) ⌝ }
-    ensures lent { λ r. ⌜ now (out .exit) ≡ outputBy Clearing header (now (source .entry)) (now (destination .entry)) (now (payload .entry)) (now (out .entry)) ⌝ }
+    ensures answers { λ r. ⌜ writtenTold r ≡ writeOf edition (header .«icmp_type») (now (payload .entry)) (now (out .entry)) ⌝ }
+    ensures lent { λ r. ⌜ now (out .exit) ≡ outputBy edition Clearing header (now (source .entry)) (now (destination .entry)) (now (payload .entry)) (now (out .entry)) ⌝ }
 {
     let icmp_type = header.icmp_type;
     let nothing_kept = Icmpv6Header {
@@ -122,7 +125,7 @@ pub fn write_packet_clearing(
         checksum: header.checksum,
         bytes5to8: 0,
     };
-    write_kept(nothing_kept, source, destination, payload, out)
+    write_kept(nothing_kept, source, destination, payload, out, edition)
 }
 
 // The same with the reserved bits that the header kept.
@@ -132,11 +135,12 @@ pub fn write_packet_keeping(
     destination: &[u8; 16],
     payload: &[u8],
     out: &mut [u8],
+    edition: Edition,
 ) -> Written
-    ensures answers { λ r. ⌜ writtenTold r ≡ writeOf (header .«icmp_type») (now (payload .entry)) (now (out .entry)) ⌝ }
-    ensures lent { λ r. ⌜ now (out .exit) ≡ outputBy Keeping header (now (source .entry)) (now (destination .entry)) (now (payload .entry)) (now (out .entry)) ⌝ }
+    ensures answers { λ r. ⌜ writtenTold r ≡ writeOf edition (header .«icmp_type») (now (payload .entry)) (now (out .entry)) ⌝ }
+    ensures lent { λ r. ⌜ now (out .exit) ≡ outputBy edition Keeping header (now (source .entry)) (now (destination .entry)) (now (payload .entry)) (now (out .entry)) ⌝ }
 {
-    write_kept(header, source, destination, payload, out)
+    write_kept(header, source, destination, payload, out, edition)
 }
 
 // The same by the default, which keeps: a packet that was read and is passed on comes out as it came in, but for its checksum.
@@ -146,9 +150,10 @@ pub fn write_packet(
     destination: &[u8; 16],
     payload: &[u8],
     out: &mut [u8],
+    edition: Edition,
 ) -> Written
-    ensures answers { λ r. ⌜ writtenTold r ≡ writeOf (header .«icmp_type») (now (payload .entry)) (now (out .entry)) ⌝ }
-    ensures lent { λ r. ⌜ now (out .exit) ≡ outputBy byDefault header (now (source .entry)) (now (destination .entry)) (now (payload .entry)) (now (out .entry)) ⌝ }
+    ensures answers { λ r. ⌜ writtenTold r ≡ writeOf edition (header .«icmp_type») (now (payload .entry)) (now (out .entry)) ⌝ }
+    ensures lent { λ r. ⌜ now (out .exit) ≡ outputBy edition byDefault header (now (source .entry)) (now (destination .entry)) (now (payload .entry)) (now (out .entry)) ⌝ }
 {
-    write_packet_keeping(header, source, destination, payload, out)
+    write_packet_keeping(header, source, destination, payload, out, edition)
 }

@@ -12,7 +12,10 @@ use Rattle.c_quotes.proofs.brothladder_chain.Tie as tie
 
 -- what stands beside the answer fits: the packet has bytes
 fits : (c : tie.After-read-chain) → Narrow (c .read-chain .result .chain)
-fits c = rw (ap (λ (t : ChainTold). t .chain) (c .read-chain .ensures)) (beside _ (λ i. omega (arith, c .before .shared-slice-known .given i)))
+fits c = rw (ap (λ (t : ChainTold). t .chain) (c .read-chain .ensures)) (beside _ _ (λ i. omega (arith, c .before .before .shared-slice-known .given i)))
+
+of-requires : tie.Need-of-requires
+of-requires c κs = search needs
 
 read-chain-requires : tie.Need-read-chain-requires
 read-chain-requires c κs = search needs
@@ -25,7 +28,7 @@ chain-of-requires c κs = fits (c .before .before .before)
 
 returns : tie.Need-returns
 unfolding chainFor
-returns c = rw (c .chain-of .ensures, ← (c .before .before .before .before .read-chain .ensures), c .before .enum-told .given .1)
+returns c = rw (c .chain-of .ensures, ← (c .before .before .before .before .before .of .ensures), ← (c .before .before .before .before .read-chain .ensures), c .before .enum-told .given .1)
 
 enum-known-verdict : tie.Need-enum-known-verdict
 enum-known-verdict c = search needs
@@ -41,12 +44,13 @@ chain-of-requires-2 c κs = fits (c .before .before .before .before .before .bef
 
 returns-2 : tie.Need-returns-2
 unfolding chainFor
-returns-2 c = rw (c .chain-of2 .ensures, c .before .before .before .numbers .ensures, ← (c .before .before .before .before .before .before .before .before .read-chain .ensures), c .before .before .before .before .before .verdict .given .1, refusal-numbered)
+returns-2 c = rw (c .chain-of2 .ensures, c .before .before .before .numbers .ensures, ← (c .before .before .before .before .before .before .before .before .before .of .ensures), ← (c .before .before .before .before .before .before .before .before .read-chain .ensures), c .before .before .before .before .before .verdict .given .1, refusal-numbered)
 
 pub brothladder-chain-spec : {M : Type 1} → statement M
 brothladder-chain-spec =
     tie.close
     (tie.spec
+    of-requires
     read-chain-requires
     enum-told
     chain-of-requires

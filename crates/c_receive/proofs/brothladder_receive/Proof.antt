@@ -9,14 +9,17 @@ use borrow.Author.Needs.{needs}
 use Rattle.c_receive.proofs.brothladder_receive.Statement.{statement}
 use Rattle.c_receive.proofs.brothladder_receive.Tie as tie
 
+of-requires : tie.Need-of-requires
+of-requires c κs = search needs
+
 receive-check-requires : tie.Need-receive-check-requires
 receive-check-requires c κs = search needs
 
 enum-known-message : tie.Need-enum-known-message
 enum-known-message c = search needs
 
-sub-t13 : tie.Need-sub-t13
-sub-t13 c = accepted-opened _ _ _ _ _ (c .before .before .before .receive-check .ensures) (c .before .message .given .1) .within
+sub-t15 : tie.Need-sub-t15
+sub-t15 c = accepted-opened _ _ _ _ _ _ (c .before .before .before .receive-check .ensures) (c .before .message .given .1) .within
 
 enum-known-why : tie.Need-enum-known-why
 enum-known-why c = search needs
@@ -24,26 +27,27 @@ enum-known-why c = search needs
 numbers-requires : tie.Need-numbers-requires
 numbers-requires c κs = search needs
 
-cast-t14 : tie.Need-cast-t14
-cast-t14 c = search needs
+cast-t16 : tie.Need-cast-t16
+cast-t16 c = search needs
 
 returns : tie.Need-returns
 unfolding receivedFor
-returns c = rw (← (c .before .before .before .receive-check .ensures), c .before .message .given .1)
+returns c = rw (← (c .before .before .before .before .of .ensures), ← (c .before .before .before .receive-check .ensures), c .before .message .given .1)
 
 returns-2 : tie.Need-returns-2
 unfolding receivedFor
-returns-2 c = rw (c .before .before .numbers .ensures, ← (c .before .before .before .before .before .before .receive-check .ensures), c .before .before .before .before .why .given .1, refusal-numbered)
+returns-2 c = rw (c .before .before .numbers .ensures, ← (c .before .before .before .before .before .before .before .of .ensures), ← (c .before .before .before .before .before .before .receive-check .ensures), c .before .before .before .before .why .given .1, refusal-numbered)
 
 pub brothladder-receive-spec : {M : Type 1} → statement M
 brothladder-receive-spec =
     tie.close
     (tie.spec
+    of-requires
     receive-check-requires
     enum-known-message
-    sub-t13
+    sub-t15
     returns
     enum-known-why
     numbers-requires
-    cast-t14
+    cast-t16
     returns-2)

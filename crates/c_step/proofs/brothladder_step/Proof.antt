@@ -6,6 +6,9 @@ use borrow.Author.Needs.{needs}
 use Rattle.c_step.proofs.brothladder_step.Statement.{statement}
 use Rattle.c_step.proofs.brothladder_step.Tie as tie
 
+of-requires : tie.Need-of-requires
+of-requires c κs = search needs
+
 step-requires : tie.Need-step-requires
 step-requires c κs = search needs
 
@@ -15,12 +18,12 @@ enum-known-option c = search needs
 kind-number-requires : tie.Need-kind-number-requires
 kind-number-requires c κs = search needs
 
-cast-t16 : tie.Need-cast-t16
-cast-t16 c = search needs
+cast-t18 : tie.Need-cast-t18
+cast-t18 c = search needs
 
 returns : tie.Need-returns
 unfolding steppedFor
-returns c = rw (c .before .kind-number .ensures, ← (c .before .before .before .before .before .before .step .ensures), c .before .before .before .before .option .given .1)
+returns c = rw (c .before .kind-number .ensures, ← (c .before .before .before .before .before .before .before .of .ensures), ← (c .before .before .before .before .before .before .step .ensures), c .before .before .before .before .option .given .1)
 
 enum-told : tie.Need-enum-told
 enum-told c = search needs
@@ -30,7 +33,7 @@ bare-requires c κs = search needs
 
 returns-2 : tie.Need-returns-2
 unfolding steppedFor
-returns-2 c = rw (c .bare .ensures, ← (c .before .before .before .step .ensures), c .before .enum-told .given .1)
+returns-2 c = rw (c .bare .ensures, ← (c .before .before .before .before .of .ensures), ← (c .before .before .before .step .ensures), c .before .enum-told .given .1)
 
 enum-known-why : tie.Need-enum-known-why
 enum-known-why c = search needs
@@ -46,7 +49,7 @@ bare-requires-2 c κs = search needs
 
 returns-3 : tie.Need-returns-3
 unfolding steppedFor
-returns-3 c = rw (c .bare2 .ensures, c .before .before .before .numbers .ensures, ← (c .before .before .before .before .before .before .before .step .ensures), c .before .before .before .before .before .why .given .1, refusal-numbered)
+returns-3 c = rw (c .bare2 .ensures, c .before .before .before .numbers .ensures, ← (c .before .before .before .before .before .before .before .before .of .ensures), ← (c .before .before .before .before .before .before .before .step .ensures), c .before .before .before .before .before .why .given .1, refusal-numbered)
 
 enum-told-2 : tie.Need-enum-told-2
 enum-told-2 c = search needs
@@ -56,16 +59,17 @@ bare-requires-3 c κs = search needs
 
 returns-4 : tie.Need-returns-4
 unfolding steppedFor
-returns-4 c = rw (c .bare3 .ensures, ← (c .before .before .before .step .ensures), c .before .enum-told2 .given .1)
+returns-4 c = rw (c .bare3 .ensures, ← (c .before .before .before .before .of .ensures), ← (c .before .before .before .step .ensures), c .before .enum-told2 .given .1)
 
 pub brothladder-step-spec : {M : Type 1} → statement M
 brothladder-step-spec =
     tie.close
     (tie.spec
+    of-requires
     step-requires
     enum-known-option
     kind-number-requires
-    cast-t16
+    cast-t18
     returns
     enum-told
     bare-requires

@@ -14,9 +14,10 @@ use Rattle.output.proofs.Wrote.{_then_, nothing}
 use Rattle.dump_lines.specs.Text.{optLine, refusedAtLine}
 use Rattle.ndp_walk.specs.Walk.{Item, shiftItem}
 use Rattle.ndp_walk.proofs.Steps.{Onward, Refusing, far-on, there}
-use Rattle.ndp_options.specs.Rule.{rule}
+use Rattle.ndp_options.specs.Editions.{ruleBy}
 use Rattle.ndp_options.specs.Told.{itemTold}
 use Rattle.ndp_options.specs.Walk.{walkFrom}
+use Rattle.ndp_options.specs.declared.Edition.the-variants.{First}
 use Rattle.ndp_options.proofs.Steps.{handed-on, ended-at, refused-at, not-stopped}
 use Rattle.listing.specs.Packet.{walkText}
 use Rattle.listing.proofs.Text.{one-more, no-more, stopped-by}
@@ -31,19 +32,19 @@ Inv-loop out₀ at options offset c₀ n₀ put₀ out c n put =
     × (n ≤ c .at)
     × (put ≤ at + 16 * c .at)
     × (length out ≡ length out₀)
-    × ((done : List ℕ) × (Wrote out₀ at done out put × (walkText 0 (walkFrom offset options) ≡ done ++ walkText n (walkFrom (offset + c .at) (drop (c .at) options)))))
+    × ((done : List ℕ) × (Wrote out₀ at done out put × (walkText 0 (walkFrom First offset options) ≡ done ++ walkText n (walkFrom First (offset + c .at) (drop (c .at) options)))))
 
 abbrev μ-loop : tie.MeasureT-loop
 μ-loop out₀ at options offset c₀ n₀ put₀ out c n put = length options - c .at
 
 -- the text from an option on: its line, at its place in the packet, and the text behind it
-further : (o : ℕ) (done : List ℕ) (n : ℕ) {s : List ℕ} {at place next : ℕ} {i : Item} → Onward rule o s at i place next → done ++ walkText n (walkFrom (o + at) (drop at s)) ≡ (done ++ optLine place (i .type) (i .len)) ++ walkText (n + 1) (walkFrom (o + next) (drop next s))
+further : (o : ℕ) (done : List ℕ) (n : ℕ) {s : List ℕ} {at place next : ℕ} {i : Item} → Onward (ruleBy First) o s at i place next → done ++ walkText n (walkFrom First (o + at) (drop at s)) ≡ (done ++ optLine place (i .type) (i .len)) ++ walkText (n + 1) (walkFrom First (o + next) (drop next s))
 further o done n {s} {at} {place} {next} {i} h =
     let line : optLine (o + i .at) (i .type) (i .len) ≡ optLine place (i .type) (i .len) = ap (λ (k : ℕ). optLine k (i .type) (i .len)) (ap (λ (k : ℕ). o + k) (h .here) ∙ sym (h .there)) in
-    rw (h .walk, one-more n (shiftItem o i) (walkFrom (o + next) (drop next s)), line) (sym (append-assoc done (optLine place (i .type) (i .len)) _))
+    rw (h .walk, one-more n (shiftItem o i) (walkFrom First (o + next) (drop next s)), line) (sym (append-assoc done (optLine place (i .type) (i .len)) _))
 
 -- the text of a refusal: its number, and its place in the packet
-stops : (o : ℕ) (done : List ℕ) (n : ℕ) {s : List ℕ} {at : ℕ} {why : Paper} → o + length s ≤ limit → Refusing rule o s at why → done ++ walkText n (walkFrom (o + at) (drop at s)) ≡ done ++ refusedAtLine (why .number) (o + at)
+stops : (o : ℕ) (done : List ℕ) (n : ℕ) {s : List ℕ} {at : ℕ} {why : Paper} → o + length s ≤ limit → Refusing (ruleBy First) o s at why → done ++ walkText n (walkFrom First (o + at) (drop at s)) ≡ done ++ refusedAtLine (why .number) (o + at)
 stops o done n near (far-on f) = absurd (omega arith)
 stops o done n {at = at} near (there h reason w) = ap (λ (l : List ℕ). done ++ l) (rw w (stopped-by n (o + at) reason))
 
@@ -53,10 +54,10 @@ Turn c =
     let l = c .before .before .before in
     let a = l .before .before .before .before .args in
     let x = c .option .given .0 .0 in
-    Onward rule (a .offset) (a .options .now) (l .loop .c .at) (itemTold x) (x .place) (c .option .given .0 .1 .0 .at)
+    Onward (ruleBy First) (a .offset) (a .options .now) (l .loop .c .at) (itemTold x) (x .place) (c .option .given .0 .1 .0 .at)
 
 onward : (c : tie.After-option Inv-loop μ-loop) → Turn c
-onward c = handed-on _ _ _ (c .before .before .before .loop .inv .0) (c .before .before .step .ensures) (c .option .given .1)
+onward c = handed-on _ _ _ _ (c .before .before .before .loop .inv .0) (c .before .before .step .ensures) (c .option .given .1)
 
 new-requires : tie.Need-new-requires Inv-loop μ-loop
 new-requires c κs = search needs
@@ -110,7 +111,7 @@ returns c =
     let e = l .before .before in
     let at = e .before .before .before in
     let v = at .loop .inv in
-    let whole = rw (ended-at _ _ _ (v .0) (e .before .before .step .ensures) (e .enum-told .given .1) .2, no-more (at .loop .n)) at (v .4 .1 .1) in
+    let whole = rw (ended-at _ _ _ _ (v .0) (e .before .before .step .ensures) (e .enum-told .given .1) .2, no-more (at .loop .n)) at (v .4 .1 .1) in
     (rw whole (v .4 .1 .0 then l .put-line2 .ensures .0), omega (arith, v .0, v .2, l .put-line2 .ensures .1))
 
 enum-known-why : tie.Need-enum-known-why Inv-loop μ-loop
@@ -119,8 +120,8 @@ enum-known-why c = search needs
 number-requires : tie.Need-number-requires Inv-loop μ-loop
 number-requires c κs = search needs
 
-add-t24 : tie.Need-add-t24 Inv-loop μ-loop
-add-t24 c =
+add-t25 : tie.Need-add-t25 Inv-loop μ-loop
+add-t25 c =
     let at = c .before .before .before .before .before in
     omega (arith, at .loop .inv .0, at .before .before .before .before .pre)
 
@@ -138,7 +139,7 @@ returns-2 c =
     let at = w .before .before .before in
     let v = at .loop .inv in
     let a = at .before .before .before .before .args in
-    let whole = v .4 .1 .1 ∙ stops (a .offset) (v .4 .0) (at .loop .n) (omega (arith, at .before .before .before .before .pre)) (refused-at _ _ _ (v .0) (w .before .before .step .ensures) (w .why .given .1) .1) in
+    let whole = v .4 .1 .1 ∙ stops (a .offset) (v .4 .0) (at .loop .n) (omega (arith, at .before .before .before .before .pre)) (refused-at _ _ _ _ (v .0) (w .before .before .step .ensures) (w .why .given .1) .1) in
     (rw (whole, ← (n .number .ensures)) (v .4 .1 .0 then l .put-line3 .ensures .0), omega (arith, v .0, v .2, l .put-line3 .ensures .1))
 
 enum-told-2 : tie.Need-enum-told-2 Inv-loop μ-loop
@@ -150,7 +151,7 @@ same-length-3 c = search needs
 returns-3 : tie.Need-returns-3 Inv-loop μ-loop
 returns-3 c =
     let at = c .before .before .before in
-    absurd (not-stopped _ _ _ (at .loop .inv .0) (c .before .before .step .ensures) (c .enum-told2 .given .1))
+    absurd (not-stopped _ _ _ _ (at .loop .inv .0) (c .before .before .step .ensures) (c .enum-told2 .given .1))
 
 pub put-walk-spec : {M : Type 1} → statement M
 put-walk-spec =
@@ -172,7 +173,7 @@ put-walk-spec =
     returns
     enum-known-why
     number-requires
-    add-t24
+    add-t25
     put-line-requires-3
     same-length-2
     returns-2

@@ -23,13 +23,13 @@ enum-known-why c = search needs
 
 returns : tie.Need-returns
 returns c =
-    let all = answered _ _ _ _ (sym (ap tallyTold (c .before .n .given .1)) ∙ c .before .before .before .walk-all .ensures) in
-    sym (whole _ _ (λ is. length is ∷ []) (all .0) (all .1) ∙ ap (λ (l : List ℕ). gives (getD l 0 0 ∷ [])) (sym (all .2)))
+    let all = answered _ _ _ _ _ (sym (ap tallyTold (c .before .n .given .1)) ∙ c .before .before .before .walk-all .ensures) in
+    sym (whole _ _ _ (λ is. length is ∷ []) (all .0) (all .1) ∙ ap (λ (l : List ℕ). gives (getD l 0 0 ∷ [])) (sym (all .2)))
 
 returns-2 : tie.Need-returns-2
 returns-2 c =
     let arm = c .before in
-    refused-whole _ _ _ (λ is. length is ∷ []) (refuses-some (arm .why .given .0 .0)) (sym (ap tallyTold (arm .why .given .1)) ∙ arm .before .before .walk-all .ensures)
+    refused-whole _ _ _ _ (λ is. length is ∷ []) (refuses-some (arm .why .given .0 .0)) (sym (ap tallyTold (arm .why .given .1)) ∙ arm .before .before .walk-all .ensures)
 
 pub count-spec : {M : Type 1} → statement M
 count-spec = tie.close (tie.spec walk-all-requires enum-known-n enum-known-why returns returns-2)

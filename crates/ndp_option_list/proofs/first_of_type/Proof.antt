@@ -15,10 +15,10 @@ use Rattle.ndp_option_list.proofs.first_of_type.Statement.{statement}
 use Rattle.ndp_option_list.proofs.first_of_type.Tie as tie
 
 -- the arm of a clean walk
-clean : (c : tie.After-found) → let a = c .before .before .before .before .args in gives (spotTold (c .found .given .0 .1 .0)) ≡ firstOf (a .wanted .0) (a .offset) (a .options .now)
+clean : (c : tie.After-found) → let a = c .before .before .before .before .args in gives (spotTold (c .found .given .0 .1 .0)) ≡ firstOf (a .edition) (a .wanted .0) (a .offset) (a .options .now)
 clean c =
-    let all = answered _ _ _ _ (sym (ap tallyTold (c .found .given .1)) ∙ c .before .before .walk-all .ensures) in
-    sym (whole _ _ _ (all .0) (all .1) ∙ ap (λ (l : List ℕ). gives (drop 1 l)) (sym (all .2)))
+    let all = answered _ _ _ _ _ (sym (ap tallyTold (c .found .given .1)) ∙ c .before .before .walk-all .ensures) in
+    sym (whole _ _ _ _ (all .0) (all .1) ∙ ap (λ (l : List ℕ). gives (drop 1 l)) (sym (all .2)))
 
 walk-all-requires : tie.Need-walk-all-requires
 walk-all-requires c κs = search needs
@@ -39,7 +39,7 @@ returns-3 : tie.Need-returns-3
 returns-3 c =
     let arm = c .before in
     let a = arm .before .before .before .before .args in
-    refused-whole _ _ _ (λ is. first (a .wanted .0) is) (refuses-some (arm .why .given .0 .0)) (sym (ap tallyTold (arm .why .given .1)) ∙ arm .before .before .walk-all .ensures)
+    refused-whole _ _ _ _ (λ is. first (a .wanted .0) is) (refuses-some (arm .why .given .0 .0)) (sym (ap tallyTold (arm .why .given .1)) ∙ arm .before .before .walk-all .ensures)
 
 pub first-of-type-spec : {M : Type 1} → statement M
 first-of-type-spec =

@@ -25,16 +25,16 @@ enum-known-why : tie.Need-enum-known-why
 enum-known-why c = search needs
 
 returns : tie.Need-returns
-returns c = sym (occurs-by _ _ _ (sym (ap firstTold (c .enum-told .given .1)) ∙ c .before .before .first-of-type .ensures))
+returns c = sym (occurs-by _ _ _ _ (sym (ap firstTold (c .enum-told .given .1)) ∙ c .before .before .first-of-type .ensures))
 
 returns-2 : tie.Need-returns-2
-returns-2 c = sym (occurs-by _ _ _ (sym (ap firstTold (c .enum-told2 .given .1)) ∙ c .before .before .first-of-type .ensures))
+returns-2 c = sym (occurs-by _ _ _ _ (sym (ap firstTold (c .enum-told2 .given .1)) ∙ c .before .before .first-of-type .ensures))
 
 returns-3 : tie.Need-returns-3
 returns-3 c =
     let arm = c .before in
     let a = arm .before .before .before .before .args in
-    refused-whole _ _ _ (λ is. oneIf (occurs (a .wanted .0) is) ∷ []) (refuses-some (arm .why .given .0 .0)) (sym (ap firstTold (arm .why .given .1)) ∙ arm .before .before .first-of-type .ensures)
+    refused-whole _ _ _ _ (λ is. oneIf (occurs (a .wanted .0) is) ∷ []) (refuses-some (arm .why .given .0 .0)) (sym (ap firstTold (arm .why .given .1)) ∙ arm .before .before .first-of-type .ensures)
 
 pub has-type-spec : {M : Type 1} → statement M
 has-type-spec =

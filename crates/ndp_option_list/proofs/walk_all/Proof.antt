@@ -17,8 +17,9 @@ use Rattle.packet_place.proofs.Laws.{near, beyond}
 use Rattle.ndp_walk.specs.Walk.{Item, Walk, then, clean, shiftItem}
 use Rattle.ndp_walk.specs.Placed.{endBy}
 use Rattle.ndp_walk.proofs.Steps.{Onward, Refusing, far-on, there}
-use Rattle.ndp_options.specs.Rule.{rule}
+use Rattle.ndp_options.specs.Editions.{ruleBy}
 use Rattle.ndp_options.specs.Walk.{walkFrom}
+use Rattle.ndp_options.specs.declared.Edition.{Edition}
 use Rattle.ndp_options.specs.Told.{itemTold}
 use Rattle.ndp_options.proofs.Steps.{handed-on, ended-at, refused-at, not-stopped}
 use Rattle.ndp_option_list.specs.Whole.{wholeOf, first, tallyOf}
@@ -56,46 +57,46 @@ unfolding first
 over wanted n found = ap (λ (k : ℕ). gives (k ∷ spotTold found)) (add-zero n)
 
 -- the same of bytes at an offset: 22 if they are too far on
-abbrev from : ℕ → List ℕ → ℕ → ℕ → ℕ → Spot → Paper
-from o s at wanted n found = cond (isFar o (length s)) far (more wanted n found (walkFrom (o + at) (drop at s)))
+abbrev from : Edition → ℕ → List ℕ → ℕ → ℕ → ℕ → Spot → Paper
+from ed o s at wanted n found = cond (isFar o (length s)) far (more wanted n found (walkFrom ed (o + at) (drop at s)))
 
 -- at the first byte nothing was found
-start : (o : ℕ) (s : List ℕ) (wanted : ℕ) → tallyOf wanted o s ≡ from o s 0 wanted 0 (spot 0 0)
+start : (ed : Edition) (o : ℕ) (s : List ℕ) (wanted : ℕ) → tallyOf ed wanted o s ≡ from ed o s 0 wanted 0 (spot 0 0)
 unfolding wholeOf
-start o s wanted = rw (add-zero o, zero-add (length (walkFrom o s .items)))
+start ed o s wanted = rw (add-zero o, zero-add (length (walkFrom ed o s .items)))
 
-ends : (o : ℕ) (s : List ℕ) (at wanted n : ℕ) (found : Spot) → o + length s ≤ limit → walkFrom (o + at) (drop at s) ≡ clean → from o s at wanted n found ≡ gives (n ∷ spotTold found)
-ends o s at wanted n found h w = rw (near o (length s) h, w) (over wanted n found)
+ends : (ed : Edition) (o : ℕ) (s : List ℕ) (at wanted n : ℕ) (found : Spot) → o + length s ≤ limit → walkFrom ed (o + at) (drop at s) ≡ clean → from ed o s at wanted n found ≡ gives (n ∷ spotTold found)
+ends ed o s at wanted n found h w = rw (near o (length s) h, w) (over wanted n found)
 
-stops : (o : ℕ) (s : List ℕ) (at wanted n : ℕ) (found : Spot) {why : Paper} → Refusing rule o s at why → from o s at wanted n found ≡ why
-stops o s at wanted n found (far-on f) = rw (beyond o (length s) f)
-stops o s at wanted n found (there h reason w) = rw (near o (length s) h, w)
+stops : (ed : Edition) (o : ℕ) (s : List ℕ) (at wanted n : ℕ) (found : Spot) {why : Paper} → Refusing (ruleBy ed) o s at why → from ed o s at wanted n found ≡ why
+stops ed o s at wanted n found (far-on f) = rw (beyond o (length s) f)
+stops ed o s at wanted n found (there h reason w) = rw (near o (length s) h, w)
 
-goes-on : (o : ℕ) (s : List ℕ) (at wanted n : ℕ) (found : Spot) {i : Item} {place next : ℕ} → Onward rule o s at i place next →
-    from o s at wanted n found ≡ from o s next wanted (n + 1) (cond (eqb (found .len) 0) (cond (eqb (i .type) wanted) (spot place (i .len)) found) found)
-goes-on o s at wanted n found {i} {place} {next} h =
+goes-on : (ed : Edition) (o : ℕ) (s : List ℕ) (at wanted n : ℕ) (found : Spot) {i : Item} {place next : ℕ} → Onward (ruleBy ed) o s at i place next →
+    from ed o s at wanted n found ≡ from ed o s next wanted (n + 1) (cond (eqb (found .len) 0) (cond (eqb (i .type) wanted) (spot place (i .len)) found) found)
+goes-on ed o s at wanted n found {i} {place} {next} h =
     let here : place ≡ o + i .at = omega (arith, h .there, h .here) in
-    rw (near o (length s) (h .near), h .walk, here) (turn wanted n found (shiftItem o i) (walkFrom (o + next) (drop next s)) (h .of .least))
+    rw (near o (length s) (h .near), h .walk, here) (turn wanted n found (shiftItem o i) (walkFrom ed (o + next) (drop next s)) (h .of .least))
 
 abbrev Inv-loop : tie.InvT-loop
-Inv-loop options offset wanted c₀ n₀ found₀ c n found =
-    (c .at ≤ length options) × (n ≤ c .at) × (tallyOf (wanted .0) offset options ≡ from offset options (c .at) (wanted .0) n found)
+Inv-loop options offset wanted edition c₀ n₀ found₀ c n found =
+    (c .at ≤ length options) × (n ≤ c .at) × (tallyOf edition (wanted .0) offset options ≡ from edition offset options (c .at) (wanted .0) n found)
 
 abbrev μ-loop : tie.MeasureT-loop
-μ-loop options offset wanted c₀ n₀ found₀ c n found = length options - c .at
+μ-loop options offset wanted edition c₀ n₀ found₀ c n found = length options - c .at
 
 -- the turn that hands out an option
 onward : (c : tie.After-option Inv-loop μ-loop) →
     let a = c .before .before .before .before .before .before .args in
     let x = c .option .given .0 .0 in
-    Onward rule (a .offset) (a .options .now) (c .before .before .before .loop .c .at) (itemTold x) (x .place) (c .option .given .0 .1 .0 .at)
-onward c = handed-on _ _ _ (c .before .before .before .loop .inv .0) (c .before .before .step .ensures) (c .option .given .1)
+    Onward (ruleBy (a .edition)) (a .offset) (a .options .now) (c .before .before .before .loop .c .at) (itemTold x) (x .place) (c .option .given .0 .1 .0 .at)
+onward c = handed-on _ _ _ _ (c .before .before .before .loop .inv .0) (c .before .before .step .ensures) (c .option .given .1)
 
 new-requires : tie.Need-new-requires Inv-loop μ-loop
 new-requires c κs = search needs
 
 loop-holds : tie.Need-loop-holds Inv-loop μ-loop
-loop-holds c = let a = c .before .before .args in rw (c .new .ensures) (omega arith, omega arith, start (a .offset) (a .options .now) (a .wanted .0))
+loop-holds c = let a = c .before .before .args in rw (c .new .ensures) (omega arith, omega arith, start (a .edition) (a .offset) (a .options .now) (a .wanted .0))
 
 step-requires : tie.Need-step-requires Inv-loop μ-loop
 step-requires c κs = search needs
@@ -120,7 +121,7 @@ loop-again c =
     let o = onward arm in (
       o .inside,
       omega arith,
-      at .loop .inv .2 ∙ rw (c .first-by .ensures) (goes-on (a .offset) (a .options .now) (at .loop .c .at) (a .wanted .0) (at .loop .n) (at .loop .found) o),
+      at .loop .inv .2 ∙ rw (c .first-by .ensures) (goes-on (a .edition) (a .offset) (a .options .now) (at .loop .c .at) (a .wanted .0) (at .loop .n) (at .loop .found) o),
     )
 
 enum-told : tie.Need-enum-told Inv-loop μ-loop
@@ -131,8 +132,8 @@ returns c =
     let at = c .before .before .before in
     let inv = at .loop .inv in
     let a = at .before .before .before .args in
-    let end = ended-at _ _ _ (inv .0) (c .before .before .step .ensures) (c .enum-told .given .1) in
-    sym (inv .2 ∙ ends (a .offset) (a .options .now) (at .loop .c .at) (a .wanted .0) (at .loop .n) (at .loop .found) (end .0) (end .2))
+    let end = ended-at _ _ _ _ (inv .0) (c .before .before .step .ensures) (c .enum-told .given .1) in
+    sym (inv .2 ∙ ends (a .edition) (a .offset) (a .options .now) (at .loop .c .at) (a .wanted .0) (at .loop .n) (at .loop .found) (end .0) (end .2))
 
 enum-known-why : tie.Need-enum-known-why Inv-loop μ-loop
 enum-known-why c = search needs
@@ -142,13 +143,13 @@ returns-2 c =
     let at = c .before .before .before .before in
     let a = at .before .before .before .args in
     let inv = at .loop .inv in
-    sym (inv .2 ∙ stops (a .offset) (a .options .now) (at .loop .c .at) (a .wanted .0) (at .loop .n) (at .loop .found) (refused-at _ _ _ (inv .0) (c .before .before .before .step .ensures) (c .before .why .given .1) .1))
+    sym (inv .2 ∙ stops (a .edition) (a .offset) (a .options .now) (at .loop .c .at) (a .wanted .0) (at .loop .n) (at .loop .found) (refused-at _ _ _ _ (inv .0) (c .before .before .before .step .ensures) (c .before .why .given .1) .1))
 
 enum-told-2 : tie.Need-enum-told-2 Inv-loop μ-loop
 enum-told-2 c = search needs
 
 returns-3 : tie.Need-returns-3 Inv-loop μ-loop
-returns-3 c = let inv = c .before .before .before .loop .inv in absurd (not-stopped _ _ _ (inv .0) (c .before .before .step .ensures) (c .enum-told2 .given .1))
+returns-3 c = let inv = c .before .before .before .loop .inv in absurd (not-stopped _ _ _ _ (inv .0) (c .before .before .step .ensures) (c .enum-told2 .given .1))
 
 pub walk-all-spec : {M : Type 1} → statement M
 walk-all-spec =

@@ -98,8 +98,8 @@ module _ {M : Type 1} (𝓤 : URA M) (H : Heap 𝓤) (A : Atoms 𝓤) (W : Given
         qed W (raw (onEntry 𝓤 H A own.signature (κ, tt) (q, tt) (d, tt) (mach d ∷ [], tt)) ∷ []) ∵ enter ! C Λ code.function (mach d ∷ []) _ $
         alloc1 ! (λ l₀. alloc1 ! (λ l₁. alloc1 ! (λ l₂. alloc1 ! (λ l₃. alloc0 ! $ params1 ! $ pass1 ! (init ! 4 refl wt) $ pass0 ! $
         assigns ! (of-opd ! (load ! (from ! (fld ! refl (stop !))) (look-in ! 4 (sub ! 0 refl (whole !))))) (from ! (stop !)) (init ! 2 refl (tt, wt .1 .0)) $
-        assigns ! (of-opd ! (load ! (from ! (fld ! refl (stop !))) (look-in ! 4 (sub ! 2 refl (whole !))))) (from ! (stop !)) (init ! 0 refl (tt, wt .1 .1 .1 .0)) $
-        move ! (8 ∷ []) $ use1 W ((‵ (flft κ q) ⊛ ‵ ftrue) ⊛ (‵ (OwnSlice κ d) ⊛ ‵ (Own κ d))) (apart 𝓤 H A W κ q d) $ split ! $ move ! (1 ∷ []) $ split ! $ move ! (2 ∷ 0 ∷ []) $ use2 W (raw (RestAt 𝓤 H A mem run .pre to)) (asked (wt .1 .1 .1 .0 .fits)) $
+        assigns ! (of-opd ! (load ! (from ! (fld ! refl (stop !))) (look-in ! 4 (sub ! 3 refl (whole !))))) (from ! (stop !)) (init ! 0 refl (tt, wt .1 .1 .1 .1 .0)) $
+        move ! (8 ∷ []) $ use1 W ((‵ (flft κ q) ⊛ ‵ ftrue) ⊛ (‵ (OwnSlice κ d) ⊛ ‵ (Own κ d))) (apart 𝓤 H A W κ q d) $ split ! $ move ! (1 ∷ []) $ split ! $ move ! (2 ∷ 0 ∷ []) $ use2 W (raw (RestAt 𝓤 H A mem run .pre to)) (asked (wt .1 .1 .1 .1 .0 .fits)) $
         calls-at ! fm (RestAt 𝓤 H A mem run) known to (and-then ! (load ! (from ! (stop !)) (look ! 4 refl)) (and-then ! (load ! (from ! (stop !)) (look ! 2 refl)) (no-more !))) (λ u.
         use1 W (later (some (λ (r : RefT (List ℕ)). ((‵ (flft κ q) ⊛ ‵ ftrue) ⊛ ‵ (R .own r (u ∷ []))) ⊛ raw (ensured 𝓤 H A callee.ended (callee.clauses 𝓤 H A mem run) (κ, tt) (d .options, (d .at, tt)) tt r)))) (id⊢ 𝓤 _) $ await ! tt $ pick ! (λ r.
         split ! $ move ! (1 ∷ []) $ use1 W (raw (fact 𝓤 (Found r))) (said r) $ heard ! (Found r) (λ e. split ! $ move ! (1 ∷ []) $

@@ -61,7 +61,7 @@ quote-calls t = (wide-reads.Asked, wide-reads.Learnt, message-below t, message.P
 stands : (t : ℕ) (c : message-lts.After-kind2 (message-calls t) (message-at t) message.Post) →
     let a = c .before .before .before .before .args in
     Within (a .place) (a .s .now) (c .kind2 .given .0 .1 .0) (c .kind2 .given .0 .1 .1 .0)
-stands t c = within _ _ (sym (ap foundTold (c .kind2 .given .1)) ∙ c .before .before .find-quote .ensures)
+stands t c = within _ _ _ (sym (ap foundTold (c .kind2 .given .1)) ∙ c .before .before .find-quote .ensures)
 
 message-find-quote-requires : (t : ℕ) → message-lts.Need-find-quote-requires (message-calls t) (message-at t) message.Post
 message-find-quote-requires t c κs = search needs
@@ -70,7 +70,7 @@ message-enum-known-why : (t : ℕ) → message-lts.Need-enum-known-why (message-
 message-enum-known-why t c = search needs
 
 message-returns : (t : ℕ) → message-lts.Need-returns (message-calls t) (message-at t) message.Post
-message-returns t c = refused _ _ _ (c .before .why .given .0 .0) (chain.bad _ _ _ (c .before .why .given .0 .0) (sym (ap foundTold (c .before .why .given .1)) ∙ c .before .before .before .find-quote .ensures))
+message-returns t c = refused _ _ _ (c .before .why .given .0 .0) (chain.bad _ _ _ _ (c .before .why .given .0 .0) (sym (ap foundTold (c .before .why .given .1)) ∙ c .before .before .before .find-quote .ensures))
 
 message-enum-known-kind : (t : ℕ) → message-lts.Need-enum-known-kind (message-calls t) (message-at t) message.Post
 message-enum-known-kind t c = search needs
@@ -87,18 +87,18 @@ message-mul-numbers-2 t c = search needs
 message-element-write-numbers : (t : ℕ) → message-lts.Need-element-write-numbers (message-calls t) (message-at t) message.Post
 message-element-write-numbers t c = search needs
 
-message-mul-t14 : (t : ℕ) → message-lts.Need-mul-t14 (message-calls t) (message-at t) message.Post
-message-mul-t14 t c = search needs
+message-mul-t15 : (t : ℕ) → message-lts.Need-mul-t15 (message-calls t) (message-at t) message.Post
+message-mul-t15 t c = search needs
 
-message-add-t15 : (t : ℕ) → message-lts.Need-add-t15 (message-calls t) (message-at t) message.Post
-message-add-t15 t c = search needs
+message-add-t16 : (t : ℕ) → message-lts.Need-add-t16 (message-calls t) (message-at t) message.Post
+message-add-t16 t c = search needs
 
 message-returns-2 : (t : ℕ) → message-lts.Need-returns-2 (message-calls t) (message-at t) message.Post
 message-returns-2 t c =
     let k = c .before .before in
     let a = k .before .before .before .before .args in
     put (3 * a .level) (now (a .numbers)) _ (c .wide .result ∷ []) (3 * a .level + 1)
-    (chain.ends _ _ _ (k .kind .given .0 .0) (sym (ap foundTold (k .kind .given .1)) ∙ k .before .before .find-quote .ensures) ∙ ap (λ (x : ℕ). gives (x ∷ [])) (sym (c .wide .ensures)))
+    (chain.ends _ _ _ _ (k .kind .given .0 .0) (sym (ap foundTold (k .kind .given .1)) ∙ k .before .before .find-quote .ensures) ∙ ap (λ (x : ℕ). gives (x ∷ [])) (sym (c .wide .ensures)))
     (one (now (a .numbers)) (3 * a .level) (c .wide .result) (omega (arith, k .before .before .before .before .pre)))
 
 message-enum-known-kind-2 : (t : ℕ) → message-lts.Need-enum-known-kind-2 (message-calls t) (message-at t) message.Post
@@ -150,23 +150,23 @@ message-returns-3 t c =
     let a = b .args in
     let from = k .kind2 .given .0 .1 .0 in
     let to = k .kind2 .given .0 .1 .1 .0 in
-    let q = quoteAt (8 - a .level) from (take (to - a .place - (from - a .place)) (drop (from - a .place) (now (a .s)))) in
+    let q = quoteAt (a .edition) (8 - a .level) from (take (to - a .place - (from - a .place)) (drop (from - a .place) (now (a .s)))) in
     in-front (3 * a .level) (now (a .numbers)) _ q (readTold (c .quote .result)) (d .wide2 .result ∷ []) (set (now (a .numbers)) (3 * a .level) (d .wide2 .result)) (3 * a .level + 1)
-    (chain.quotes _ _ _ (k .kind2 .given .0 .0) from to (sym (ap foundTold (k .kind2 .given .1)) ∙ k .before .before .find-quote .ensures)
-    ∙ ap (λ (l : List ℕ). after (k .kind2 .given .0 .0 ∷ []) (quoteAt (8 - a .level) from l)) (sym (same-part _ _ w))
+    (chain.quotes _ _ _ _ (k .kind2 .given .0 .0) from to (sym (ap foundTold (k .kind2 .given .1)) ∙ k .before .before .find-quote .ensures)
+    ∙ ap (λ (l : List ℕ). after (k .kind2 .given .0 .0 ∷ []) (quoteAt (a .edition) (8 - a .level) from l)) (sym (same-part _ _ w))
     ∙ ap (λ (x : ℕ). after (x ∷ []) q) (sym (d .wide2 .ensures)))
     (one (now (a .numbers)) (3 * a .level) (d .wide2 .result) (omega (arith, b .pre)))
     (c .quote .ensures)
 
 -- ---- a quote
 quote-returns : (t : ℕ) → quote-lts.Need-returns (quote-calls t) (quote-at t) quote.Post
-quote-returns t c = let a = c .before .before .args in refused _ _ _ (DeepQuote (a .place)) (chain.ninth (a .level) (a .place) (now (a .s)) (c .if1 .taken))
+quote-returns t c = let a = c .before .before .args in refused _ _ _ (DeepQuote (a .place)) (chain.ninth (a .edition) (a .level) (a .place) (now (a .s)) (c .if1 .taken))
 
 quote-returns-2 : (t : ℕ) → quote-lts.Need-returns-2 (quote-calls t) (quote-at t) quote.Post
 quote-returns-2 t c =
     let b = c .before .before .before in
     let a = b .args in
-    refused _ _ _ (ShortQuote (a .place)) (chain.short (a .level) (a .place) (now (a .s)) (b .pre .1 .1) (c .before .if1 .left) (c .if2 .taken))
+    refused _ _ _ (ShortQuote (a .place)) (chain.short (a .edition) (a .level) (a .place) (now (a .s)) (b .pre .1 .1) (c .before .if1 .left) (c .if2 .taken))
 
 quote-shared-slice-read-if3 : (t : ℕ) → quote-lts.Need-shared-slice-read-if3 (quote-calls t) (quote-at t) quote.Post
 quote-shared-slice-read-if3 t c = search needs
@@ -176,7 +176,7 @@ quote-returns-3 t c =
     let two-left = c .before .before in
     let b = two-left .before .before .before in
     let a = b .args in
-    refused _ _ _ (QuoteVersion (a .place)) (chain.other-version (a .level) (a .place) (now (a .s)) (b .pre .1 .1) (two-left .before .if1 .left) (two-left .if2 .left) (c .if3 .taken))
+    refused _ _ _ (QuoteVersion (a .place)) (chain.other-version (a .edition) (a .level) (a .place) (now (a .s)) (b .pre .1 .1) (two-left .before .if1 .left) (two-left .if2 .left) (c .if3 .taken))
 
 quote-shared-slice-read-next-header : (t : ℕ) → quote-lts.Need-shared-slice-read-next-header (quote-calls t) (quote-at t) quote.Post
 quote-shared-slice-read-next-header t c = search needs
@@ -240,9 +240,9 @@ quote-returns-4 t c =
     let two-left = three-left .before .before in
     let b = two-left .before .before .before in
     let a = b .args in
-    let q = messageAt (8 - (a .level + 1)) (a .place + 40) (take (length (now (a .s)) - 40) (drop 40 (now (a .s)))) in
+    let q = messageAt (a .edition) (8 - (a .level + 1)) (a .place + 40) (take (length (now (a .s)) - 40) (drop 40 (now (a .s)))) in
     in-front (3 * a .level + 1) (now (a .numbers)) _ q (readTold (c .message .result)) (a .place ∷ w .wide .result ∷ []) (set (set (now (a .numbers)) (3 * a .level + 1) (a .place)) (3 * a .level + 2) (w .wide .result)) (3 * (a .level + 1))
-    (chain.inner (a .level) (a .place) (now (a .s)) (b .pre .1 .1) (two-left .before .if1 .left) (two-left .if2 .left) (three-left .if3 .left) (c .before .before .before .if4 .taken) ∙ rw (w .wide .ensures, rest-is (now (a .s)) 40))
+    (chain.inner (a .edition) (a .level) (a .place) (now (a .s)) (b .pre .1 .1) (two-left .before .if1 .left) (two-left .if2 .left) (three-left .if3 .left) (c .before .before .before .if4 .taken) ∙ rw (w .wide .ensures, rest-is (now (a .s)) 40))
     (two (now (a .numbers)) (3 * a .level + 1) (3 * a .level + 2) (3 * (a .level + 1)) (a .place) (w .wide .result) (omega arith) (omega arith) (omega (arith, b .pre, two-left .before .if1 .left)))
     (c .message .ensures)
 
@@ -258,11 +258,11 @@ quote-mul-numbers-6 t c = search needs
 quote-element-write-numbers-3 : (t : ℕ) → quote-lts.Need-element-write-numbers-3 (quote-calls t) (quote-at t) quote.Post
 quote-element-write-numbers-3 t c = search needs
 
-quote-mul-t8 : (t : ℕ) → quote-lts.Need-mul-t8 (quote-calls t) (quote-at t) quote.Post
-quote-mul-t8 t c = search needs
+quote-mul-t9 : (t : ℕ) → quote-lts.Need-mul-t9 (quote-calls t) (quote-at t) quote.Post
+quote-mul-t9 t c = search needs
 
-quote-add-t16 : (t : ℕ) → quote-lts.Need-add-t16 (quote-calls t) (quote-at t) quote.Post
-quote-add-t16 t c = search needs
+quote-add-t17 : (t : ℕ) → quote-lts.Need-add-t17 (quote-calls t) (quote-at t) quote.Post
+quote-add-t17 t c = search needs
 
 quote-returns-5 : (t : ℕ) → quote-lts.Need-returns-5 (quote-calls t) (quote-at t) quote.Post
 quote-returns-5 t c =
@@ -272,7 +272,7 @@ quote-returns-5 t c =
     let b = two-left .before .before .before in
     let a = b .args in
     put (3 * a .level + 1) (now (a .numbers)) _ (a .place ∷ w .wide .result ∷ 0 ∷ []) (3 * a .level + 4)
-    (chain.other-header (a .level) (a .place) (now (a .s)) (b .pre .1 .1) (two-left .before .if1 .left) (two-left .if2 .left) (three-left .if3 .left) (c .if4 .left) ∙ rw (w .wide .ensures))
+    (chain.other-header (a .edition) (a .level) (a .place) (now (a .s)) (b .pre .1 .1) (two-left .before .if1 .left) (two-left .if2 .left) (three-left .if3 .left) (c .if4 .left) ∙ rw (w .wide .ensures))
     (three (now (a .numbers)) (3 * a .level + 1) (3 * a .level + 2) (3 * a .level + 4) (a .place) (w .wide .result) (omega arith) (3 * a .level + 3) 0 (omega arith) (omega arith) (omega (arith, b .pre, two-left .before .if1 .left)))
 
 pub +message+quote-spec : {M : Type 1} → statement M
@@ -287,8 +287,8 @@ pub +message+quote-spec : {M : Type 1} → statement M
     (message-mul-numbers t)
     (message-mul-numbers-2 t)
     (message-element-write-numbers t)
-    (message-mul-t14 t)
-    (message-add-t15 t)
+    (message-mul-t15 t)
+    (message-add-t16 t)
     (message-returns-2 t)
     (message-enum-known-kind-2 t)
     (message-wide-requires-2 t)
@@ -331,6 +331,6 @@ pub +message+quote-spec : {M : Type 1} → statement M
     (quote-add-numbers-3 t)
     (quote-mul-numbers-6 t)
     (quote-element-write-numbers-3 t)
-    (quote-mul-t8 t)
-    (quote-add-t16 t)
+    (quote-mul-t9 t)
+    (quote-add-t17 t)
     (quote-returns-5 t)

@@ -22,16 +22,16 @@ first : (c : tie.After-first-of-type) →
     let five = c .before .before in
     let a = five .before .before .before .before .before .before .before .before .before .before .before .args in
     let base = 8 + five .before .fixed-len .result in
-    firstTold (c .first-of-type .result) ≡ firstOf 4 (a .place + base) (drop base (a .s .now))
+    firstTold (c .first-of-type .result) ≡ firstOf (a .edition) 4 (a .place + base) (drop base (a .s .now))
 first c =
     let five = c .before .before in
     let a = five .before .before .before .before .before .before .before .before .before .before .before .args in
-    c .first-of-type .ensures ∙ ap (firstOf 4 (a .place + (8 + five .before .fixed-len .result))) (rw rest-is)
+    c .first-of-type .ensures ∙ ap (firstOf (a .edition) 4 (a .place + (8 + five .before .fixed-len .result))) (rw rest-is)
 
 -- a message with a list: what the definition says of it, by what the call answered
 of-list : (c : tie.After-first-of-type) →
     let a = c .before .before .before .before .before .before .before .before .before .before .before .before .before .args in
-    foundOf (a .place) (a .s .now) ≡ onward (quoteIn (getD (a .s .now) 0 0)) (firstTold (c .first-of-type .result))
+    foundOf (a .edition) (a .place) (a .s .now) ≡ onward (quoteIn (getD (a .s .now) 0 0)) (firstTold (c .first-of-type .result))
 of-list c =
     let five = c .before .before in
     let four = five .before .before in
@@ -42,8 +42,8 @@ of-list c =
     let s = a .s .now in
     let kind = getD s 0 0 in
     let fixed = five .before .fixed-len .ensures in
-    listed (a .place) s (one .if1 .left) (sym (two .before .is-known .ensures) ∙ not-false _ (two .if2 .left)) (three .if3 .left) (sym (four .before .is-ndp .ensures) ∙ not-false _ (four .if4 .left)) (rw fixed at (five .if5 .left))
-    ∙ ap (λ (n : ℕ). inOptions kind (a .place) (8 + n) s) (sym fixed)
+    listed (a .edition) (a .place) s (one .if1 .left) (sym (two .before .is-known .ensures) ∙ not-false _ (two .if2 .left)) (three .if3 .left) (sym (four .before .is-ndp .ensures) ∙ not-false _ (four .if4 .left)) (rw fixed at (five .if5 .left))
+    ∙ ap (λ (n : ℕ). inOptions (a .edition) kind (a .place) (8 + n) s) (sym fixed)
     ∙ ap (λ (p : Paper). onward (quoteIn kind) p) (sym (first c))
 
 -- an option that was found is within the list, and so in the packet
@@ -54,12 +54,12 @@ inside c =
     let five = c .before .before .before .before in
     let a = five .before .before .before .before .before .before .before .before .before .before .before .args in
     let base = 8 + five .before .fixed-len .result in
-    let w = first-within 4 (a .place + base) (drop base (a .s .now)) (sym (ap firstTold (c .at .given .1)) ∙ first (c .before .before)) in
+    let w = first-within (a .edition) 4 (a .place + base) (drop base (a .s .now)) (sym (ap firstTold (c .at .given .1)) ∙ first (c .before .before)) in
     let n = length-drop base (a .s .now) in
     (omega (arith, five .if5 .left), w .1)
 
 returns : tie.Need-returns
-returns c = sym (short _ _ (c .if1 .taken))
+returns c = sym (short _ _ _ (c .if1 .taken))
 
 shared-slice-read-kind : tie.Need-shared-slice-read-kind
 shared-slice-read-kind c = search needs
@@ -71,18 +71,18 @@ is-known-requires : tie.Need-is-known-requires
 is-known-requires c κs = search needs
 
 returns-2 : tie.Need-returns-2
-returns-2 c = sym (unknown _ _ (c .before .before .before .before .if1 .left) (sym (c .before .is-known .ensures) ∙ not-true _ (c .if2 .taken)))
-
-add-t17 : tie.Need-add-t17
-add-t17 c = search needs
+returns-2 c = sym (unknown _ _ _ (c .before .before .before .before .if1 .left) (sym (c .before .is-known .ensures) ∙ not-true _ (c .if2 .taken)))
 
 add-t18 : tie.Need-add-t18
 add-t18 c = search needs
 
+add-t19 : tie.Need-add-t19
+add-t19 c = search needs
+
 returns-3 : tie.Need-returns-3
 returns-3 c =
     let two = c .before in
-    sym (error _ _ (two .before .before .before .before .if1 .left) (sym (two .before .is-known .ensures) ∙ not-false _ (two .if2 .left)) (c .if3 .taken))
+    sym (error _ _ _ (two .before .before .before .before .if1 .left) (sym (two .before .is-known .ensures) ∙ not-false _ (two .if2 .left)) (c .if3 .taken))
 
 is-ndp-requires : tie.Need-is-ndp-requires
 is-ndp-requires c κs = search needs
@@ -91,7 +91,7 @@ returns-4 : tie.Need-returns-4
 returns-4 c =
     let three = c .before .before in
     let two = three .before in
-    sym (other _ _ (two .before .before .before .before .if1 .left) (sym (two .before .is-known .ensures) ∙ not-false _ (two .if2 .left)) (three .if3 .left) (sym (c .before .is-ndp .ensures) ∙ not-true _ (c .if4 .taken)))
+    sym (other _ _ _ (two .before .before .before .before .if1 .left) (sym (two .before .is-known .ensures) ∙ not-false _ (two .if2 .left)) (three .if3 .left) (sym (c .before .is-ndp .ensures) ∙ not-true _ (c .if4 .taken)))
 
 fixed-len-requires : tie.Need-fixed-len-requires
 fixed-len-requires c κs = search needs
@@ -103,7 +103,7 @@ returns-5 c =
     let three = four .before .before in
     let two = three .before in
     rw fixed
-    (sym (cut _ _ (two .before .before .before .before .if1 .left) (sym (two .before .is-known .ensures) ∙ not-false _ (two .if2 .left)) (three .if3 .left) (sym (four .before .is-ndp .ensures) ∙ not-false _ (four .if4 .left)) (rw fixed at (c .if5 .taken))))
+    (sym (cut _ _ _ (two .before .before .before .before .if1 .left) (sym (two .before .is-known .ensures) ∙ not-false _ (two .if2 .left)) (three .if3 .left) (sym (four .before .is-ndp .ensures) ∙ not-false _ (four .if4 .left)) (rw fixed at (c .if5 .taken))))
 
 add-base : tie.Need-add-base
 add-base c = search needs
@@ -129,11 +129,11 @@ enum-told c = search needs
 enum-known-at : tie.Need-enum-known-at
 enum-known-at c = search needs
 
-add-t28 : tie.Need-add-t28
-add-t28 c = omega (arith, inside (c .before))
-
 add-t29 : tie.Need-add-t29
 add-t29 c = omega (arith, inside (c .before))
+
+add-t30 : tie.Need-add-t30
+add-t30 c = omega (arith, inside (c .before))
 
 enum-known-why : tie.Need-enum-known-why
 enum-known-why c = search needs
@@ -156,8 +156,8 @@ find-quote-spec =
     shared-slice-read-is-known
     is-known-requires
     returns-2
-    add-t17
     add-t18
+    add-t19
     returns-3
     is-ndp-requires
     returns-4
@@ -171,8 +171,8 @@ find-quote-spec =
     first-of-type-requires
     enum-told
     enum-known-at
-    add-t28
     add-t29
+    add-t30
     enum-known-why
     returns-6
     returns-7

@@ -19,7 +19,7 @@ use Rattle.quotes.proofs.read_chain.Tie as tie
 between : (c : tie.After-enum-told) → Between (length (c .before .before .before .before .args .packet .now))
 between c = passed _ (sym (ap lengthTold (c .enum-told .given .1)) ∙ c .before .before .check-len .ensures)
 
-outer : (c : tie.After-enum-told) → chainOf (c .before .before .before .before .args .packet .now) ≡ messageAt 8 0 (c .before .before .before .before .args .packet .now)
+outer : (c : tie.After-enum-told) → chainOf (c .before .before .before .before .args .edition) (c .before .before .before .before .args .packet .now) ≡ messageAt (c .before .before .before .before .args .edition) 8 0 (c .before .before .before .before .args .packet .now)
 outer c = let b = between c in sized-fits _ (b .low) (b .high) _
 
 check-len-requires : tie.Need-check-len-requires
@@ -58,7 +58,7 @@ returns-2 c =
     let why = c .before .before .why2 .given .0 .0 in
     let m = c .before .before .before .before in
     refused-chain (chainTold (c .refused2 .result)) _ why
-    (outer (m .before .before) ∙ refused-means (messageAt 8 0 (now (m .before .before .before .before .before .before .args .packet))) 0 why (sym (ap readTold (c .before .before .why2 .given .1)) ∙ m .message .ensures .0))
+    (outer (m .before .before) ∙ refused-means (messageAt (m .before .before .before .before .before .before .args .edition) 8 0 (now (m .before .before .before .before .before .before .args .packet))) 0 why (sym (ap readTold (c .before .before .why2 .given .1)) ∙ m .message .ensures .0))
     (c .refused2 .ensures)
 
 returns-3 : tie.Need-returns-3
@@ -66,10 +66,11 @@ unfolding readOf
 returns-3 c =
     let m = c .before .before .before in
     let s = now (m .before .before .before .before .before .before .args .packet) in
-    let p = messageAt 8 0 s in
+    let ed = m .before .before .before .before .before .before .args .edition in
+    let p = messageAt ed 8 0 s in
     let t = to-means p 0 (c .before .to .given .0 .0) (sym (ap readTold (c .before .to .given .1)) ∙ m .message .ensures .0) in
     rw (outer (m .before .before))
-    (whole-chain p (c .before .to .given .0 .0) _ (t .0) (t .1) (m .message .ensures .1 (t .0)) (counted (chain-of-message 8 (length s) 0 s (omega arith) (t .0))))
+    (whole-chain p (c .before .to .given .0 .0) _ (t .0) (t .1) (m .message .ensures .1 (t .0)) (counted (chain-of-message ed 8 (length s) 0 s (omega arith) (t .0))))
 
 pub read-chain-spec : {M : Type 1} → statement M
 read-chain-spec =

@@ -73,8 +73,8 @@ typed c = ndp-kind (start c .args .packet .now) (ndp (c .before .before .before 
 past-code : (c : tie.Else5) →
     let a = start c .args in
     let p = a .packet .now in
-    firstOf (reasons (a .hop-limit) (a .source .now) (a .destination .now) p)
-    ≡ cond (eqb (byBytes p .number) 4) 4 (firstOf (optionReasons (getD p 0 0) (packetOptions p) (a .source .now) (a .destination .now) p))
+    firstOf (reasons (a .edition) (a .hop-limit) (a .source .now) (a .destination .now) p)
+    ≡ cond (eqb (byBytes p .number) 4) 4 (firstOf (optionReasons (a .edition) (getD p 0 0) (packetOptions p) (a .source .now) (a .destination .now) p))
 unfolding reasons firstOf
 past-code c =
     let v = c .before .before in
@@ -113,8 +113,8 @@ returns-7 c =
     let o = handed (c .before) in
     let m = c .before .before .opened .given .0 .0 in
     c .option-reason .ensures
-    ∙ ap (λ (t : ℕ). firstOf (optionReasons t (drop (m .«options_at») p) (now (a .source)) (now (a .destination)) p)) (o .kind ∙ typed k)
-    ∙ ap (λ (i : ℕ). firstOf (optionReasons (getD p 0 0) (drop i p) (now (a .source)) (now (a .destination)) p)) (o .options)
+    ∙ ap (λ (t : ℕ). firstOf (optionReasons (a .edition) t (drop (m .«options_at») p) (now (a .source)) (now (a .destination)) p)) (o .kind ∙ typed k)
+    ∙ ap (λ (i : ℕ). firstOf (optionReasons (a .edition) (getD p 0 0) (drop i p) (now (a .source)) (now (a .destination)) p)) (o .options)
     ∙ sym (past-code k ∙ rw (o .told))
 
 pub first-reason-spec : {M : Type 1} → statement M

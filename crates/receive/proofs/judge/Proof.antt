@@ -36,7 +36,7 @@ first-reason-requires c κs = let h = fitting (c .before .before) in ((h .low, h
 returns : tie.Need-returns
 returns c =
     let a = c .before .before .before .before .before .args in
-    sym (refused-judged (a .hop-limit) (now (a .source)) (now (a .destination)) (now (a .packet)) (c .before .why .given .0 .0) (ap size.lengthTold (sym (c .before .why .given .1)) ∙ c .before .before .before .check-len .ensures))
+    sym (refused-judged (a .edition) (a .hop-limit) (now (a .source)) (now (a .destination)) (now (a .packet)) (c .before .why .given .0 .0) (ap size.lengthTold (sym (c .before .why .given .1)) ∙ c .before .before .before .check-len .ensures))
 
 returns-2 : tie.Need-returns-2
 unfolding reasonOf

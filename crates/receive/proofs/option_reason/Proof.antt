@@ -25,8 +25,8 @@ has-type-requires c κs = search needs
 -- the answer is about the options
 asked : (c : tie.After-has-type) →
     let a = c .before .before .before .args in
-    occursTold (c .has-type .result) ≡ occursOf 1 (a .message .«options_at») (drop (a .message .«options_at») (now (a .packet)))
-asked c = c .has-type .ensures ∙ ap (occursOf 1 (c .before .before .before .args .message .«options_at»)) (c .before .rest .ensures)
+    occursTold (c .has-type .result) ≡ occursOf (a .edition) 1 (a .message .«options_at») (drop (a .message .«options_at») (now (a .packet)))
+asked c = c .has-type .ensures ∙ ap (occursOf (c .before .before .before .args .edition) 1 (c .before .before .before .args .message .«options_at»)) (c .before .rest .ensures)
 
 -- and none of their places is too far on
 near : (c : tie.After-has-type) →
@@ -54,20 +54,20 @@ own-reason-requires-2 c κs = search needs
 
 returns : tie.Need-returns
 unfolding optionReasons firstOf
-returns c = let t = c .before .before in simp (not-clean _ _ (near t) (t .has-type .result) (asked t) (c .enum-told .given .1))
+returns c = let t = c .before .before in simp (not-clean (t .before .before .before .args .edition) _ _ (near t) (t .has-type .result) (asked t) (c .enum-told .given .1))
 
 returns-2 : tie.Need-returns-2
 unfolding optionReasons firstOf
 returns-2 c =
     let t = c .before .before .before in
-    let o = answers _ _ (near t) (t .has-type .result) (asked t) true (ap occursTold (c .before .enum-told2 .given .1)) in
+    let o = answers (t .before .before .before .args .edition) _ _ (near t) (t .has-type .result) (asked t) true (ap occursTold (c .before .enum-told2 .given .1)) in
     rw (o .0, o .1) (c .own-reason .ensures)
 
 returns-3 : tie.Need-returns-3
 unfolding optionReasons firstOf
 returns-3 c =
     let t = c .before .before .before in
-    let o = answers _ _ (near t) (t .has-type .result) (asked t) false (ap occursTold (c .before .enum-told3 .given .1)) in
+    let o = answers (t .before .before .before .args .edition) _ _ (near t) (t .has-type .result) (asked t) false (ap occursTold (c .before .enum-told3 .given .1)) in
     rw (o .0, o .1) (c .own-reason2 .ensures)
 
 pub option-reason-spec : {M : Type 1} → statement M

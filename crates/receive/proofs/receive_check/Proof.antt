@@ -16,7 +16,7 @@ is-far-requires c κs = search needs
 
 returns : tie.Need-returns
 unfolding receiveOf
-returns c = let a = c .before .before .before .args in rw (far-reason (a .hop-limit) (now (a .source)) (now (a .destination)) (now (a .packet)) (sym (c .before .is-far .ensures) ∙ c .if1 .taken))
+returns c = let a = c .before .before .before .args in rw (far-reason (a .edition) (a .hop-limit) (now (a .source)) (now (a .destination)) (now (a .packet)) (sym (c .before .is-far .ensures) ∙ c .if1 .taken))
 
 judge-requires : tie.Need-judge-requires
 judge-requires c κs = search needs

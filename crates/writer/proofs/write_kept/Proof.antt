@@ -32,7 +32,7 @@ enum-told : tie.Need-enum-told
 enum-told c = search needs
 
 -- past the tests: the payload is within the limit
-passed : (c : tie.After-enum-told) → let a = c .before .before .before .before .before .args in gives [] ≡ sendableOf (a .header .«icmp_type») (now (a .payload))
+passed : (c : tie.After-enum-told) → let a = c .before .before .before .before .before .args in gives [] ≡ sendableOf (a .edition) (a .header .«icmp_type») (now (a .payload))
 passed c = ap sendableTold (sym (c .enum-told .given .1)) ∙ c .before .before .check .ensures
 
 add-needed : tie.Need-add-needed
@@ -41,7 +41,7 @@ add-needed c = search needs
 returns : tie.Need-returns
 returns c = let p = passed (c .before) in
     let a = c .before .before .before .before .before .before .args in
-    let e = narrow (a .header .«icmp_type») (now (a .payload)) (now (a .out)) p (c .if1 .taken) in
+    let e = narrow (a .edition) (a .header .«icmp_type») (now (a .payload)) (now (a .out)) p (c .if1 .taken) in
     (sym e, rw e)
 
 to-bytes-keeping-requires : tie.Need-to-bytes-keeping-requires
@@ -83,7 +83,7 @@ enum-known-why-2 c = search needs
 returns-2 : tie.Need-returns-2
 returns-2 c = let a = c .before .before .before .before .before .before .args in
     let why = c .before .why .given .0 .0 in
-    let e = refused-write (a .header .«icmp_type») (now (a .payload)) (now (a .out)) why (ap sendableTold (sym (c .before .why .given .1)) ∙ c .before .before .before .check .ensures) in
+    let e = refused-write (a .edition) (a .header .«icmp_type») (now (a .payload)) (now (a .out)) why (ap sendableTold (sym (c .before .why .given .1)) ∙ c .before .before .before .check .ensures) in
     (sym e, rw e (refused-leaves why (now (a .out)) (packetBy Keeping (now (a .source)) (now (a .destination)) (a .header) (now (a .payload)))))
 
 same-length : tie.Need-same-length
@@ -124,10 +124,10 @@ returns-3 c = let second = c .before .before in
     let out = now (a .out) in
     let payload = now (a .payload) in
     let enough : 8 + length payload ≤ length out = t .before .if1 .left in
-    let e = fitting (a .header .«icmp_type») payload out (passed p) enough in
+    let e = fitting (a .edition) (a .header .«icmp_type») payload out (passed p) enough in
     let field = b .u16-to-be .result in
     let bytes = set (set (t .to-bytes-keeping .result) 2 (getD field 0 0)) 3 (getD field 1 0) in
-    let head = with-field b (within (a .header .«icmp_type») payload (passed p)) in
+    let head = with-field b (within (a .edition) (a .header .«icmp_type») payload (passed p)) in
     let seam : length bytes ≡ 8 = ap length head in
     let h = wrote out 0 bytes (first .put .ensures .1) (omega arith) 8 (omega arith) in
     let v = h then wrote _ 8 payload (second .put2 .ensures .1) (omega arith) (8 + length payload) refl in (
@@ -140,7 +140,7 @@ returns-4 c = let w = c .before .before .before in
     let p = w .before .before .before in
     let a = p .before .before .before .before .before .args in
     let why = c .before .why2 .given in
-    absurd (never-refused Keeping (now (a .source)) (now (a .destination)) (a .header) (now (a .payload)) (within (a .header .«icmp_type») (now (a .payload)) (passed p)) (why .0 .0) (ap computed (sym (why .1)) ∙ computed-for w))
+    absurd (never-refused Keeping (now (a .source)) (now (a .destination)) (a .header) (now (a .payload)) (within (a .edition) (a .header .«icmp_type») (now (a .payload)) (passed p)) (why .0 .0) (ap computed (sym (why .1)) ∙ computed-for w))
 
 pub write-kept-spec : {M : Type 1} → statement M
 write-kept-spec =

@@ -13,9 +13,10 @@ use Rattle.ndp_walk.specs.Walk.{item}
 use Rattle.ndp_walk.specs.Step.{Told, told, ended, handed, answer}
 use Rattle.ndp_walk.proofs.Judging.{fitting}
 use Rattle.ndp_walk.proofs.Steps.{beyond, too-far, within}
-use Rattle.ndp_options.specs.Rule.{rule}
+use Rattle.ndp_options.specs.Editions.{ruleBy}
 use Rattle.ndp_options.specs.Walk.{stepOf}
 use Rattle.ndp_options.specs.Told.{judgedTold, judgedAt}
+use Rattle.ndp_options.specs.declared.Edition.{Edition}
 use borrow.Author.Needs.{needs}
 use Rattle.ndp_options.proofs.Cursor.step.Statement.{statement}
 use Rattle.ndp_options.proofs.Cursor.step.Tie as tie
@@ -37,14 +38,14 @@ good place Over e = absurd (let z : _≡_ {A = ℕ} 0 1 = cc in omega arith)
 good place (Bad why) e = absurd (let z : _≡_ {A = ℕ} 0 1 = cc in omega arith)
 good place (Good k t len) e = sym e
 
-stepped : (o : ℕ) (s : List ℕ) (at : ℕ) {v : Judgement} → o + length s ≤ limit → at ≤ length s → v ≡ judgedAt (o + at) (judge rule (drop at s)) → tells (length s) at (o + at) v ≡ stepOf o s at
-stepped o s at near h e = sym (within rule o s at near h refl ∙ answers o (length s) at (judge rule (drop at s)) ∙ ap (tells (length s) at (o + at)) (sym e))
+stepped : (ed : Edition) (o : ℕ) (s : List ℕ) (at : ℕ) {v : Judgement} → o + length s ≤ limit → at ≤ length s → v ≡ judgedAt (o + at) (judge (ruleBy ed) (drop at s)) → tells (length s) at (o + at) v ≡ stepOf ed o s at
+stepped ed o s at near h e = sym (within (ruleBy ed) o s at near h refl ∙ answers o (length s) at (judge (ruleBy ed) (drop at s)) ∙ ap (tells (length s) at (o + at)) (sym e))
 
 near : (c : tie.Else2) → let a = c .before .before .before .before .args in a .offset + length (a .options .now) ≤ limit
 near c = is-near _ _ (sym (c .before .is-far .ensures) ∙ c .if2 .left)
 
 -- what the call of `judge` found
-found : (c : tie.After-judge) → let a = c .before .before .before .before .before .before .args in judgedTold (c .judge .result) ≡ judgedAt (a .offset + a .self .at) (judge rule (drop (a .self .at) (a .options .now)))
+found : (c : tie.After-judge) → let a = c .before .before .before .before .before .before .args in judgedTold (c .judge .result) ≡ judgedAt (a .offset + a .self .at) (judge (ruleBy (a .edition)) (drop (a .self .at) (a .options .now)))
 found c = c .judge .ensures ∙ rw rest-is
 
 returns : tie.Need-returns
@@ -90,22 +91,25 @@ add-next : tie.Need-add-next
 add-next c =
     let judged = c .before .before .before .before in
     let args = judged .before .before .before .before .before .before .args in
-    omega (arith, fitting rule _ (good _ _ (sym (ap judgedTold (c .before .before .found .given .1)) ∙ found judged)), length-drop (args .self .at) (args .options .now))
+    omega (arith, fitting (ruleBy (args .edition)) _ (good _ _ (sym (ap judgedTold (c .before .before .found .given .1)) ∙ found judged)), length-drop (args .self .at) (args .options .now))
 
 returns-3 : tie.Need-returns-3
 returns-3 c =
     let judged = c .before .before in
-    stepped _ _ _ (near (judged .before .before)) (omega arith) (sym (ap judgedTold (c .enum-told .given .1)) ∙ found judged)
+    let args = judged .before .before .before .before .before .before .args in
+    stepped (args .edition) _ _ _ (near (judged .before .before)) (omega arith) (sym (ap judgedTold (c .enum-told .given .1)) ∙ found judged)
 
 returns-4 : tie.Need-returns-4
 returns-4 c =
     let judged = c .before .before .before in
-    stepped _ _ _ (near (judged .before .before)) (omega arith) (sym (ap judgedTold (c .before .why .given .1)) ∙ found judged)
+    let args = judged .before .before .before .before .before .before .args in
+    stepped (args .edition) _ _ _ (near (judged .before .before)) (omega arith) (sym (ap judgedTold (c .before .why .given .1)) ∙ found judged)
 
 returns-5 : tie.Need-returns-5
 returns-5 c =
     let judged = c .before .before .before .before in
-    stepped _ _ _ (near (judged .before .before)) (omega arith) (sym (ap judgedTold (c .before .before .found .given .1)) ∙ found judged)
+    let args = judged .before .before .before .before .before .before .args in
+    stepped (args .edition) _ _ _ (near (judged .before .before)) (omega arith) (sym (ap judgedTold (c .before .before .found .given .1)) ∙ found judged)
 
 pub step-spec : {M : Type 1} → statement M
 step-spec =

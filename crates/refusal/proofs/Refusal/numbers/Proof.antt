@@ -19,26 +19,23 @@ enum-known-self-4 c = search needs
 enum-known-self-5 : tie.Need-enum-known-self-5
 enum-known-self-5 c = search needs
 
-cast-t48 : tie.Need-cast-t48
-cast-t48 c = search needs
+cast-t49 : tie.Need-cast-t49
+cast-t49 c = search needs
 
 enum-known-self-6 : tie.Need-enum-known-self-6
 enum-known-self-6 c = search needs
 
-cast-t53 : tie.Need-cast-t53
-cast-t53 c = search needs
+cast-t54 : tie.Need-cast-t54
+cast-t54 c = search needs
 
 enum-known-self-7 : tie.Need-enum-known-self-7
 enum-known-self-7 c = search needs
 
-cast-t56 : tie.Need-cast-t56
-cast-t56 c = search needs
+cast-t57 : tie.Need-cast-t57
+cast-t57 c = search needs
 
 enum-known-self-8 : tie.Need-enum-known-self-8
 enum-known-self-8 c = search needs
-
-cast-t61 : tie.Need-cast-t61
-cast-t61 c = search needs
 
 cast-t62 : tie.Need-cast-t62
 cast-t62 c = search needs
@@ -49,23 +46,26 @@ cast-t63 c = search needs
 cast-t64 : tie.Need-cast-t64
 cast-t64 c = search needs
 
+cast-t65 : tie.Need-cast-t65
+cast-t65 c = search needs
+
 enum-known-self-9 : tie.Need-enum-known-self-9
 enum-known-self-9 c = search needs
 
 enum-known-self-10 : tie.Need-enum-known-self-10
 enum-known-self-10 c = search needs
 
-cast-t69 : tie.Need-cast-t69
-cast-t69 c = search needs
-
 cast-t70 : tie.Need-cast-t70
 cast-t70 c = search needs
+
+cast-t71 : tie.Need-cast-t71
+cast-t71 c = search needs
 
 enum-known-self-11 : tie.Need-enum-known-self-11
 enum-known-self-11 c = search needs
 
-cast-t72 : tie.Need-cast-t72
-cast-t72 c = search needs
+cast-t73 : tie.Need-cast-t73
+cast-t73 c = search needs
 
 enum-known-self-12 : tie.Need-enum-known-self-12
 enum-known-self-12 c = search needs
@@ -84,6 +84,9 @@ enum-known-self-16 c = search needs
 
 enum-known-self-17 : tie.Need-enum-known-self-17
 enum-known-self-17 c = search needs
+
+enum-known-self-18 : tie.Need-enum-known-self-18
+enum-known-self-18 c = search needs
 
 enum-told : tie.Need-enum-told
 enum-told c = search needs
@@ -140,7 +143,10 @@ returns-17 : tie.Need-returns-17
 returns-17 c = rw (c .before .self17 .given .1)
 
 returns-18 : tie.Need-returns-18
-returns-18 c = rw (c .enum-told .given .1)
+returns-18 c = rw (c .before .self18 .given .1)
+
+returns-19 : tie.Need-returns-19
+returns-19 c = rw (c .enum-told .given .1)
 
 pub numbers-spec : {M : Type 1} → statement M
 numbers-spec =
@@ -151,28 +157,29 @@ numbers-spec =
     enum-known-self-3
     enum-known-self-4
     enum-known-self-5
-    cast-t48
+    cast-t49
     enum-known-self-6
-    cast-t53
+    cast-t54
     enum-known-self-7
-    cast-t56
+    cast-t57
     enum-known-self-8
-    cast-t61
     cast-t62
     cast-t63
     cast-t64
+    cast-t65
     enum-known-self-9
     enum-known-self-10
-    cast-t69
     cast-t70
+    cast-t71
     enum-known-self-11
-    cast-t72
+    cast-t73
     enum-known-self-12
     enum-known-self-13
     enum-known-self-14
     enum-known-self-15
     enum-known-self-16
     enum-known-self-17
+    enum-known-self-18
     enum-told
     returns
     returns-2
@@ -191,4 +198,5 @@ numbers-spec =
     returns-15
     returns-16
     returns-17
-    returns-18)
+    returns-18
+    returns-19)

@@ -1,0 +1,2 @@
+pub mod Servers
+pub mod Cases
