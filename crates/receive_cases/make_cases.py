@@ -126,11 +126,14 @@ case(reason(5), ra(bytes([5, 2]) + bytes(14)))
 # 6.1.1 asks nothing of a solicitation's addresses
 case(ACCEPTED, rs(), NOBODY)
 case(ACCEPTED, rs(), FAR, FAR)
-# 6.1.2 and 8.1: a link-local source; here that begins fe 80 (docs/RULES.md R11)
+# 6.1.2 and 8.1: a link-local source; RFC 4291, section 2.4: fe80::/10, a first byte fe and a second of 80 to bf
+ALL = ":ffff:ffff:ffff:ffff:ffff:ffff:ffff"
+LOCAL = ["fe80::", NEAR, "fe80" + ALL, "fe81::1", "fe8f::1", "fe90::1", "febf::1", "febf" + ALL]
+NOT_LOCAL = [NOBODY, "::1", FAR, "fe00::1", "fe7f::1", "fe7f" + ALL, "fec0::", "fec0::1", "feff::1", "fd80::1", "fdbf::1", "ff80::1", NODES]
 for make in [ra, redirect]:
-    case(ACCEPTED, make(), "fe80::")
-    case(ACCEPTED, make(), "fe80:ffff:ffff:ffff:ffff:ffff:ffff:ffff")
-    for source in [NOBODY, "::1", FAR, "fe7f::1", "fe81::1", "fe90::1", "febf::1", "fec0::1", NODES]:
+    for source in LOCAL:
+        case(ACCEPTED, make(), source)
+    for source in NOT_LOCAL:
         case(reason(6), make(), source)
 # 7.1.1: from the unspecified address only to a solicited-node address
 case(ACCEPTED, ns(), NOBODY, ASKED)
@@ -162,8 +165,14 @@ case(ACCEPTED, redirect(NEAR, NEAR))
 case(ACCEPTED, redirect(FAR, FAR))
 case(reason(7), redirect(FAR, "2001:db8::2"))
 case(reason(7), redirect("2001:db9::1", FAR))
-case(reason(7), redirect("fe81::1", FAR))
+for target in LOCAL:
+    case(ACCEPTED, redirect(target, "2001:db8::2"))
+for target in NOT_LOCAL:
+    case(reason(7), redirect(target, "2001:db8::2"))
+case(ACCEPTED, redirect("fe81::1", FAR))
 case(ACCEPTED, redirect("fe81::1", "fe81::1"))
+case(ACCEPTED, redirect("fec0::1", "fec0::1"))
+case(ACCEPTED, redirect("fe90::1", FAR), NEAR, "2001:db8::9")
 case(reason(7), redirect(NEAR, NODES))
 case(reason(7), redirect(NODES, NODES))
 case(reason(7), redirect(NODES, FAR))
@@ -198,6 +207,8 @@ case(reason(5), rs(SOURCE_LINK + b"\x01"), NOBODY)
 case(reason(6), ns(NODES, SOURCE_LINK), NOBODY, NODES)
 case(reason(6), na(NODES, flags=64), NEAR, NODES)
 case(reason(6), redirect(FAR, NODES), FAR)
+case(reason(6), redirect(FAR, "2001:db8::2"), "fec0::1")
+case(reason(7), redirect(FAR, "2001:db8::2"), "fe90::1")
 case(reason(7), ns(NODES, SOURCE_LINK), NOBODY, ASKED)
 
 
@@ -227,7 +238,7 @@ def judge(hops, source, destination, packet):
     if kind not in range(133, 138):
         return ACCEPTED if valid else reason(2)
     fixed = {133: 8, 134: 16, 135: 24, 136: 24, 137: 40}[kind]
-    local = lambda a: a[:2] == b"\xfe\x80"
+    local = lambda a: a[0] == 0xFE and a[1] & 0xC0 == 0x80
     target, field = packet[8:24], packet[24:40]
     if hops != 255:
         return reason(1)

@@ -174,6 +174,37 @@ static void reason(uint8_t *b, size_t n, uint8_t hop_limit, const uint8_t *sourc
         refuses(what, &r, sizeof r, 11, wanted, 0, 0, 0, 0);
 }
 
+/* RFC 4291, section 2.4: fe80::/10 is link-local. Such a source of a router advertisement and a redirect, and such a target of a redirect whose
+   destination field is another address. */
+static void link_local(uint32_t edition) {
+    static const struct { uint8_t first, second, local; } kinds[] = {{0xfe, 0x7f, 0}, {0xfe, 0x80, 1}, {0xfe, 0x8f, 1}, {0xfe, 0x90, 1}, {0xfe, 0xbf, 1},
+                                                                     {0xfe, 0xc0, 0}, {0xfe, 0xff, 0}, {0xfd, 0x80, 0}, {0xff, 0x80, 0}};
+    uint8_t advertisement[16] = {134}, redirect[40] = {137}, address[16] = {[15] = 1};
+    memcpy(redirect + 24, global, 16);
+    for (size_t i = 0; i < sizeof kinds / sizeof *kinds; i++) {
+        address[0] = kinds[i].first;
+        address[1] = kinds[i].second;
+        reason(advertisement, 16, 255, address, all_routers, edition, kinds[i].local ? 0 : BROTHLADDER_REASON_ADDRESSES);
+        memcpy(redirect + 8, other, 16);
+        reason(redirect, 40, 255, address, other, edition, kinds[i].local ? 0 : BROTHLADDER_REASON_ADDRESSES);
+        memcpy(redirect + 8, address, 16);
+        reason(redirect, 40, 255, router, other, edition, kinds[i].local ? 0 : BROTHLADDER_REASON_TARGET);
+        reason(redirect, 40, 255, global, other, edition, BROTHLADDER_REASON_ADDRESSES);
+    }
+    /* the source will do, and the target will not */
+    address[0] = 0xfe;
+    address[1] = 0x90;
+    memcpy(redirect + 8, global, 16);
+    redirect[23] = 9;
+    reason(redirect, 40, 255, address, other, edition, BROTHLADDER_REASON_TARGET);
+    /* every first two bytes of a source */
+    for (unsigned pair = 0; pair < 65536; pair++) {
+        address[0] = (uint8_t)(pair >> 8);
+        address[1] = (uint8_t)pair;
+        reason(advertisement, 16, 255, address, all_routers, edition, pair >> 6 == 0xfe80 >> 6 ? 0 : BROTHLADDER_REASON_ADDRESSES);
+    }
+}
+
 static void reasons(uint32_t edition) {
     uint8_t b[64];
     static const size_t whole[] = {8, 16, 24, 24, 40};
@@ -414,6 +445,7 @@ void cases(void) {
         worked(edition);
         dumped(edition);
         reasons(edition);
+        link_local(edition);
         options_refused(edition);
         newer_options(edition);
         offsets(edition);

@@ -14,11 +14,12 @@ static const uint8_t addresses[][16] = {
     {0xff, 0x02, [15] = 1},                                     /* multicast */
     {0xff, 0x02, [11] = 1, 0xff, 0, 0, 2},                      /* solicited-node */
     {0xff, 0x02, [11] = 1, 0xfe, 0, 0, 2},
+    {0xfe, 0xc0, [15] = 1},                                     /* behind the last that is link-local */
 };
 
 static void any_address(uint8_t *a) {
-    uint32_t i = below(9);
-    for (int k = 0; k < 16; k++) a[k] = i < 8 ? addresses[i][k] : (uint8_t)chance();
+    uint32_t i = below(10);
+    for (int k = 0; k < 16; k++) a[k] = i < 9 ? addresses[i][k] : (uint8_t)chance();
 }
 
 /* How many units an option has, of a type that looks at them; for a route and for servers by chance as many as it must have. */

@@ -199,7 +199,8 @@ static uint32_t bad_walk(const uint8_t *p, size_t left, size_t place, uint32_t e
     return refusal;
 }
 
-static bool link_local(const uint8_t *a) { return a[0] == 0xfe && a[1] == 0x80; }
+/* RFC 4291, section 2.4: link-local unicast is fe80::/10, 1111111010. */
+static bool link_local(const uint8_t *a) { return a[0] == 0xfe && (a[1] & 0xc0) == 0x80; }
 static bool multicast(const uint8_t *a) { return a[0] == 0xff; }
 static bool unspecified(const uint8_t *a) { static const uint8_t none[16]; return memcmp(a, none, 16) == 0; }
 static bool solicited_node(const uint8_t *a) {

@@ -29,6 +29,10 @@ def sealed(packet, source, destination):
     return blank[:2] + ((65535 - rest) % 65535).to_bytes(2, "big") + blank[4:]
 
 
+def address(text):
+    return ipaddress.ip_address(text).packed
+
+
 def case(name, capture, wanted=None):
     text = model.listing(capture)
     assert wanted is None or text.endswith(wanted + "\n"), (name, text)
@@ -67,8 +71,27 @@ for entry in open(here + "/boundaries.txt").read().split("\n\nB")[1:]:
     given, packet, lines = entry.split("\n", 1)[1].split("\n\n")
     hops, source, destination = given.split()
     wanted += [f"record {len(wanted) + 1} at {len(printed)}\n" + lines.strip().replace("> ", "")]
-    printed += record(bytes.fromhex(packet), int(hops), ipaddress.ip_address(source).packed, ipaddress.ip_address(destination).packed)
+    printed += record(bytes.fromhex(packet), int(hops), address(source), address(destination))
 case("boundaries", printed, "\n".join(["icmp6 1", *wanted, f"records {len(wanted)}"]))
+# RFC 4291, section 2.4: fe80::/10 is link-local. Each of these as source of a router advertisement, as source of a redirect, as target of a redirect;
+# then a redirect whose source will do and whose target will not
+LOCAL = {"fe7f::1": False, "fe80::1": True, "fe8f::1": True, "fe90::1": True, "febf::1": True, "fec0::1": False, "feff::1": False, "fd80::1": False, "ff80::1": False}
+NODES, HOST, FIELD = address("ff02::1"), address("2001:db8::9"), address("2001:db8::1")
+
+
+def from_to(packet, source, destination):
+    return record(sealed(packet, source, destination), 255, source, destination)
+
+
+advertisement, redirect = bytes([134]) + bytes(15), lambda target: bytes([137]) + bytes(7) + target + FIELD
+made, wanted = b"", []
+for a, local in ((address(text), local) for text, local in LOCAL.items()):
+    made += from_to(advertisement, a, NODES) + from_to(redirect(NEAR), a, HOST) + from_to(redirect(a), NEAR, HOST)
+    wanted += [0, 0, 0] if local else [6, 6, 7]
+made += from_to(redirect(HOST), address("fe90::1"), HOST)
+wanted += [7]
+case("link_local", made, f"records {len(wanted)}")
+assert [int(line.split()[-1]) for line in model.listing(made).split("\n") if " recv " in line] == wanted
 random.seed(20261115)
 mixed = []
 for _ in range(300):

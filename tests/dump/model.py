@@ -36,6 +36,11 @@ def walk(packet):
     return found, None
 
 
+def link_local(address):
+    """RFC 4291, section 2.4: fe80::/10."""
+    return int.from_bytes(address[:2], "big") >> 6 == 0b1111111010
+
+
 def receive(hops, source, destination, packet):
     kind = packet[0]
     if kind not in FIXED:
@@ -51,14 +56,14 @@ def receive(hops, source, destination, packet):
     options, refused = walk(packet)
     if refused:
         return 5
-    nobody, local = source == bytes(16), source[:2] == b"\xfe\x80"
+    nobody, local = source == bytes(16), link_local(source)
     target, field = packet[8:24], packet[24:40]
     asked = destination[:13] == bytes.fromhex("ff0200000000000000000001ff")
     if kind in (134, 137) and not local or kind == 135 and nobody and not asked or kind == 136 and packet[4] & 64 and destination[0] == 255:
         return 6
     if kind in (135, 136) and target[0] == 255:
         return 7
-    if kind == 137 and (field[0] == 255 or target[:2] != b"\xfe\x80" and target != field):
+    if kind == 137 and (field[0] == 255 or not link_local(target) and target != field):
         return 7
     if kind in (133, 135) and nobody and any(t == 1 for _, t, _ in options):
         return 8

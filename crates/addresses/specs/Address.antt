@@ -1,4 +1,4 @@
--- RFC 4291, section 2.4, and docs/RULES.md R11: kinds of addresses by the bytes that they begin with.
+-- RFC 4291, section 2.4, and docs/RULES.md R11: kinds of addresses by the bits that they begin with.
 -- Assumes nothing.
 use Prim.Native.Nat.{ℕ}
 use mathlib.Core.Bool.{Bool, _&&_}
@@ -6,6 +6,7 @@ use mathlib.Core.List.{List, [], _∷_, _++_}
 use lib.Dec.{eqb}
 use lib.ListN.{length, replicate}
 use Rattle.wire.specs.Prefix.{begins}
+use Rattle.addresses.specs.Prefix.{inPrefix}
 
 -- whether two are the same bytes
 abbrev pub same : List ℕ → List ℕ → Bool
@@ -17,12 +18,12 @@ unspecified a = begins (replicate 16 0) a
 
 -- section 2.7: ff00::/8
 abbrev pub multicast : List ℕ → Bool
-multicast a = begins (0xff ∷ []) a
+multicast a = inPrefix (0xff ∷ []) 8 a
 
--- docs/RULES.md R11: begins fe 80 (section 2.4: fe80::/10)
+-- section 2.5.6: fe80::/10, a first byte 254, and the two high bits of the second 10
 abbrev pub linkLocal : List ℕ → Bool
-linkLocal a = begins (0xfe ∷ 0x80 ∷ []) a
+linkLocal a = inPrefix (0xfe ∷ 0x80 ∷ []) 10 a
 
--- section 2.7.1: ff02:0:0:0:0:1:ff00::/104, thirteen bytes
+-- section 2.7.1: ff02:0:0:0:0:1:ff00::/104
 abbrev pub solicitedNode : List ℕ → Bool
-solicitedNode a = begins (0xff ∷ 0x02 ∷ (replicate 9 0 ++ 0x01 ∷ 0xff ∷ [])) a
+solicitedNode a = inPrefix (0xff ∷ 0x02 ∷ (replicate 9 0 ++ 0x01 ∷ 0xff ∷ [])) 104 a

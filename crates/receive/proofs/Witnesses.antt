@@ -11,6 +11,7 @@ use Rattle.packet_length.specs.Length.{sized}
 use Rattle.message_table.specs.Table.{known, fixedLen}
 use Rattle.icmpv6_payload_slice.specs.Dispatch.{byBytes, payloadOf}
 use Rattle.wire.specs.Prefix.{begins}
+use Rattle.addresses.specs.Prefix.{inPrefix}
 use Rattle.checksum.specs.Ones.{_⊕_}
 use Rattle.checksum.specs.Icmpv6.{sumOf, withField, checksumOf, verdictOf}
 use Rattle.ndp_walk.specs.Judge.{judge}
@@ -38,7 +39,7 @@ abbrev came : ℕ → List ℕ → List ℕ → List ℕ → ℕ → Witness
 came hops source destination packet reason = record { hops = hops; source = source; destination = destination; packet = packet; reason = reason }
 
 -- with its checksum in it, under hop limit 255
-abbrev sealed : List ℕ → List ℕ → List ℕ → List ℕ
+abbrev pub sealed : List ℕ → List ℕ → List ℕ → List ℕ
 sealed source destination packet = withField packet (checksumOf source destination packet)
 
 abbrev sent : List ℕ → List ℕ → List ℕ → ℕ → Witness
@@ -48,20 +49,20 @@ sent source destination packet reason = came 255 source destination (sealed sour
 abbrev nobody : List ℕ
 nobody = replicate 16 0
 
-abbrev near : List ℕ
+abbrev pub near : List ℕ
 near = 0xfe ∷ 0x80 ∷ (replicate 13 0 ++ 1 ∷ [])
 
-abbrev far : List ℕ
+abbrev pub far : List ℕ
 far = 0x20 ∷ 0x01 ∷ 0x0d ∷ 0xb8 ∷ (replicate 11 0 ++ 1 ∷ [])
 
-abbrev all : List ℕ
+abbrev pub all : List ℕ
 all = 0xff ∷ 0x02 ∷ (replicate 13 0 ++ 1 ∷ [])
 
 abbrev asked : List ℕ
 asked = 0xff ∷ 0x02 ∷ (replicate 9 0 ++ 1 ∷ 0xff ∷ 0 ∷ 0 ∷ 1 ∷ [])
 
 -- a message with its checksum field 0: type, byte 4, and what is behind the head
-abbrev message : ℕ → ℕ → List ℕ → List ℕ
+abbrev pub message : ℕ → ℕ → List ℕ → List ℕ
 message type flags rest = type ∷ 0 ∷ 0 ∷ 0 ∷ flags ∷ 0 ∷ 0 ∷ 0 ∷ rest
 
 -- the sender's link-layer address
@@ -112,7 +113,7 @@ Answered e ws = map (answerTo e) ws ≡ map (λ (w : Witness). answerBy (w .pack
 
 -- in either edition, since none has an option of the types that the second adds
 pub answered : Answered First witnesses × Answered Second witnesses
-unfolding witnesses receiveOf reasonOf reasons optionReasons firstOf ownOf known byBytes payloadOf sized fixedLen begins sumOf checksumOf verdictOf _⊕_ judge ruleBy rule second walkOn walkFrom occurs
+unfolding witnesses receiveOf reasonOf reasons optionReasons firstOf ownOf known byBytes payloadOf sized fixedLen begins inPrefix sumOf checksumOf verdictOf _⊕_ judge ruleBy rule second walkOn walkFrom occurs
 answered = (refl, refl)
 
 -- a solicitation whose option is a route of four units, or one with a prefix length of 129: accepted in the first edition, reason 5 in the second
@@ -120,7 +121,7 @@ pub fourUnits : List Witness
 fourUnits = sent near all (message 133 0 (24 ∷ 4 ∷ replicate 30 0)) 0 ∷ sent near all (message 133 0 (24 ∷ 1 ∷ 129 ∷ replicate 5 0)) 0 ∷ []
 
 pub apart : Answered First fourUnits × (map (answerTo Second) fourUnits ≡ notReceived 5 ∷ notReceived 5 ∷ [])
-unfolding fourUnits receiveOf reasonOf reasons optionReasons firstOf ownOf known byBytes payloadOf sized fixedLen begins sumOf checksumOf verdictOf _⊕_ judge ruleBy rule second walkOn walkFrom occurs
+unfolding fourUnits receiveOf reasonOf reasons optionReasons firstOf ownOf known byBytes payloadOf sized fixedLen begins inPrefix sumOf checksumOf verdictOf _⊕_ judge ruleBy rule second walkOn walkFrom occurs
 apart = (refl, refl)
 
 -- type and answer of each
@@ -135,7 +136,7 @@ complete = refl
 
 -- no check that is constant: the first packet of the table under hop limit 255 and under 254
 pub not-constant : (e : Edition) (p : Paper) → ((hops : ℕ) (source destination packet : List ℕ) → receiveOf e hops source destination packet ≡ p) → ⊥
-unfolding receiveOf reasonOf reasons optionReasons firstOf ownOf known byBytes payloadOf sized fixedLen begins sumOf checksumOf verdictOf _⊕_ judge ruleBy rule second walkOn walkFrom occurs
+unfolding receiveOf reasonOf reasons optionReasons firstOf ownOf known byBytes payloadOf sized fixedLen begins inPrefix sumOf checksumOf verdictOf _⊕_ judge ruleBy rule second walkOn walkFrom occurs
 not-constant e p same =
     let packet = sealed near all (message 133 0 option) in
     let q = sym (taken e) ∙ same 255 near all packet ∙ sym (same 254 near all packet) ∙ left e in

@@ -50,3 +50,29 @@ without [] r rs q (here e h) = absurd (false≢true (sym q ∙ h))
 without [] r rs q (later h f) = f
 without (b ∷ before) r rs q (here e h) = here e h
 without (b ∷ before) r rs q (later h f) = later h (without before r rs q f)
+
+-- two lists of the same numbers, of which a reason of the second holds only where that of the first does
+pub data Fewer : List Reason → List Reason → Type 0 where
+  none : Fewer [] []
+  more : {r q : Reason} {rs qs : List Reason} → r .number ≡ q .number → (r .holds ≡ false → q .holds ≡ false) → Fewer rs qs → Fewer (r ∷ rs) (q ∷ qs)
+
+pub fewer-itself : (rs : List Reason) → Fewer rs rs
+fewer-itself [] = none
+fewer-itself (r ∷ rs) = more refl (λ e. e) (fewer-itself rs)
+
+pub fewer-none : {rs qs : List Reason} → Fewer rs qs → None rs → None qs
+fewer-none none h = tt
+fewer-none (more e w f) h = (w (h .0), fewer-none f (h .1))
+
+pub fewer-numbered : {rs qs : List Reason} → Fewer rs qs → Numbered qs → Numbered rs
+fewer-numbered none p = tt
+fewer-numbered (more e w f) p = (omega (arith, p .0, e), fewer-numbered f (p .1))
+
+-- where one of the second holds, one of the first does
+pub fewer-first : {n : ℕ} {rs qs : List Reason} → Fewer rs qs → First n qs → (m : ℕ) × First m rs
+fewer-first (more {r} {q} {rs} {qs} e w f) first = by (r .holds) refl (fewer-first f) first
+  where
+    by : {n : ℕ} (b : Bool) → r .holds ≡ b → (First n qs → (m : ℕ) × First m rs) → First n (q ∷ qs) → (m : ℕ) × First m (r ∷ rs)
+    by true t on g = (r .number, here refl t)
+    by false t on (here p h) = absurd (false≢true (sym (w t) ∙ h))
+    by false t on (later h g) = let m = on g in (m .0, later t (m .1))

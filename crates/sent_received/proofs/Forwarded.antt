@@ -2,6 +2,7 @@
 -- Assumes nothing.
 use mathlib.Core.Path.{refl}
 use Rattle.wire.specs.Prefix.{begins}
+use Rattle.addresses.specs.Prefix.{inPrefix}
 use Rattle.packet_length.specs.Length.{sized}
 use Rattle.message_table.specs.Table.{known, fixedLen}
 use Rattle.icmpv6_type.specs.Value.{typeOf}
@@ -17,5 +18,5 @@ use Rattle.receive.specs.Receive.{optionReasons, reasons, reasonOf, receiveOf}
 use Rattle.sent_received.specs.Forwarded.{Reads, Comes, advertisement}
 
 pub pair : Reads × Comes byDefault (advertisement 0xa5 8) × Comes Clearing (advertisement 0xad 0)
-unfolding begins sized known fixedLen typeOf decodeOf _⊕_ sumOf checksumOf verdictOf payloadOf byBytes walkOn walkFrom occurs firstOf ownOf optionReasons reasons reasonOf receiveOf
+unfolding begins inPrefix sized known fixedLen typeOf decodeOf _⊕_ sumOf checksumOf verdictOf payloadOf byBytes walkOn walkFrom occurs firstOf ownOf optionReasons reasons reasonOf receiveOf
 pair = (refl, (refl, refl, λ e. refl), (refl, refl, λ e. refl))
