@@ -5,7 +5,7 @@ import sys
 import tempfile
 
 MODELS = {"skylake": "Skylake", "znver3": "Zen 3"}
-WHO = {"brothladder_sum": "this library", "plain": "C, the plain loop", "rfc1071": "C of RFC 1071, section 4.1", "lwip": "lwIP",
+WHO = {"brothladder_bench_sum": "this library", "plain": "C, the plain loop", "rfc1071": "C of RFC 1071, section 4.1", "lwip": "lwIP",
        "dpdk": "DPDK `rte_raw_cksum`", "linux_csum": "Linux `csum_partial`"}
 BY = {"O2": "gcc -O2", "O3": "gcc -O3", "clang": "the toolchain's clang -O3"}
 
@@ -84,7 +84,7 @@ start, end = "<!-- bench/run writes from here -->\n", "<!-- to here -->\n"
 head, rest = page.split(start)
 open(sys.argv[1], "w").write(head + start + "\n" + table + "\n\n" + end + rest.split(end)[1])
 for n in (1280, 65535):
-    mine, theirs = counts["brothladder_sum", n], counts["plain_clang", n]
+    mine, theirs = counts["brothladder_bench_sum", n], counts["plain_clang", n]
     print(f"{n} bytes: {mine} instructions, the plain loop in C by the toolchain's clang {theirs}")
-    if mine > theirs or stores["brothladder_sum", n]:
+    if mine > theirs or stores["brothladder_bench_sum", n]:
         sys.exit("the sum needs more than the plain loop, or uses the stack")

@@ -1,6 +1,6 @@
 /* brothladder.h: reads, checks and writes ICMPv6 and Neighbor Discovery packets. docs/RULES.md has every rule, area X these calls.
  *
- * Each call takes numbers and byte buffers and returns one struct by value (brothladder_version_5 takes nothing and returns a number).
+ * Each call takes numbers, byte buffers and sums, and returns one struct by value (only brothladder_version_5 returns a number).
  * You may pass any bytes of any length. A call allocates nothing, keeps nothing from one call to the next, and uses no C library.
  *
  * The first field of each struct, `answer`, says what was found. `answer` is never 0: compare it with the constants below, do not
@@ -105,6 +105,7 @@ extern "C" {
 #define BROTHLADDER_IGNORED 14u /* route: one with the reserved preference, which nobody may use */
 #define BROTHLADDER_SERVERS 15u /* dns: a recursive DNS server option */
 #define BROTHLADDER_PREFERENCE 16u /* preference: how far the router is preferred */
+#define BROTHLADDER_SUM 17u     /* sum, sum_pseudo, sum_push, sum_join: a sum of bytes */
 
 /* Values of `refusal`, which says why a call refused; 0 if it did not. `value` has the numbers that go with it, 0 past the last. The
  * last number of 5 to 8 and the one of 18 is the place of the refused option in the packet: `offset` + `at` of a step, `offset` of the
@@ -182,7 +183,8 @@ extern "C" {
 #define BROTHLADDER_PREFERENCE_HIGH 1u
 #define BROTHLADDER_PREFERENCE_LOW 3u
 
-/* Each struct begins with the same three fields. None has padding, so every byte is set. A field that an answer does not use is 0. */
+/* Each struct begins with the same three fields, but that of the sums, which no call refuses. None has padding, so every byte is set. A
+ * field that an answer does not use is 0. */
 
 struct brothladder_head {
     uint32_t answer; /* KNOWN, UNKNOWN or REFUSED */
@@ -277,6 +279,13 @@ struct brothladder_chain {
     uint32_t quote[8];      /* where each begins in the packet. Its 40 bytes of IPv6 header are within the packet */
     uint8_t next_header[8]; /* 58: an ICMPv6 message begins at quote[i] + 40 */
     uint8_t level_kind[8];  /* that message's type, 0 if type and code are not a known pair. 0 where the next header is not 58 */
+};
+
+/* A sum of bytes, in one register. Pass it on as it is: `odd` belongs to `sum`. */
+struct brothladder_summed {
+    uint32_t answer; /* SUM */
+    uint16_t sum;    /* the folded sum (RFC 1071): not the checksum, which is 65535 - sum */
+    uint16_t odd;    /* 1 if an odd number of bytes is in it, else 0 */
 };
 
 /* Decodes the head of a packet. KNOWN: type, code, checksum field and the fields of the type; no field holds reserved bits. UNKNOWN: the
@@ -386,6 +395,37 @@ struct brothladder_written brothladder_write_keeping(uint8_t type, uint8_t code,
  * their own message. */
 BROTHLADDER_ANSWER
 struct brothladder_chain brothladder_chain(const uint8_t *packet, size_t length, uint32_t edition);
+
+/* Sums of bytes that lie in several buffers; docs/SUMS.md says what may be exchanged with what. To verify a packet that lies in two buffers,
+ * wherever it is cut:
+ *
+ *     size_t length = buffer[0].length + buffer[1].length;
+ *     if (length < 8 || length > 4294967295u)
+ *         return 0;                                       // brothladder_verify refuses such a packet (1, 2); a sum refuses none
+ *     struct brothladder_summed s = brothladder_sum_pseudo(source, destination, (uint32_t)length);
+ *     for (int i = 0; i < 2; i++)
+ *         s = brothladder_sum_push(s, buffer[i].bytes, buffer[i].length);
+ *     return s.sum == 65535;                              // just where brothladder_verify of the whole packet is VALID
+ *
+ * To compute a checksum, walk over the same bytes with 0 in the checksum field, and write 65535 - s.sum into it, high byte first.
+ * A sum that you did not get from one of these calls counts as it stands, and any odd number in `odd` as 1; `answer` is not looked at.
+ * Refusals: none. */
+
+/* The sum of some bytes. */
+BROTHLADDER_ANSWER
+struct brothladder_summed brothladder_sum(const uint8_t *bytes, size_t length);
+
+/* The sum of the pseudo-header of a packet of `length` bytes (RFC 8200, section 8.1; next header 58). */
+BROTHLADDER_ANSWER BROTHLADDER_ADDRESSES(1, 2)
+struct brothladder_summed brothladder_sum_pseudo(const uint8_t source[16], const uint8_t destination[16], uint32_t length);
+
+/* The sum of the bytes that `before` is the sum of, and `bytes` behind them. */
+BROTHLADDER_ANSWER
+struct brothladder_summed brothladder_sum_push(struct brothladder_summed before, const uint8_t *bytes, size_t length);
+
+/* The sum of the bytes that `first` is the sum of, and those of `second` behind them: for buffers that were summed apart. */
+BROTHLADDER_ANSWER
+struct brothladder_summed brothladder_sum_join(struct brothladder_summed first, struct brothladder_summed second);
 
 /* Returns BROTHLADDER_VERSION. You need not call it: it is here to be referred to. `retain` keeps the reference where the linker drops
  * what nobody uses. */

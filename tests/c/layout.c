@@ -74,6 +74,11 @@ AT(chain, next_header, 88, 8);
 AT(chain, level_kind, 96, 8);
 ENDS(chain, 104);
 
+AT(summed, answer, 0, 4);
+AT(summed, sum, 4, 2);
+AT(summed, odd, 6, 2);
+ENDS(summed, 8);
+
 /* of this head the field at `index` is `value`, and the others are 0 */
 static void alone(const char *bytes, size_t index, uint32_t value) {
     uint8_t b[8];

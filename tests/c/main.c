@@ -13,6 +13,7 @@ int main(void) {
     damaged();
     quotes();
     lengths();
+    sums();
     editions_compared();
     printf("%lu passed, %lu failed\n", passed, failed);
     return failed != 0 || passed == 0;

@@ -9,8 +9,8 @@ import sys
 import tempfile
 
 root = os.path.dirname(os.path.dirname(os.path.dirname(os.path.abspath(__file__))))
-HEADER, PREFIX, DECODE, STEP, QUOTES, ANSWER, VERSION = "include/brothladder.h", *(
-    f"crates/c_{c}/src/lib.rt" for c in ("prefix", "decode", "step", "quotes", "answer", "version"))
+HEADER, PREFIX, DECODE, STEP, QUOTES, ANSWER, VERSION, SUMMED = "include/brothladder.h", *(
+    f"crates/c_{c}/src/lib.rt" for c in ("prefix", "decode", "step", "quotes", "answer", "version", "summed"))
 EDITIONS = "crates/ndp_options/specs/Editions.antt"
 
 
@@ -85,6 +85,8 @@ MISTAKES = [
     ("two refusals of a quote exchanged", {HEADER: exchanged("SHORT_QUOTE", "QUOTE_VERSION")}, ["header"]),
     ("the refusal of a far offset with another number", {HEADER: instead("FAR_OFFSET 22u", "FAR_OFFSET 15u")}, ["header"]),
     ("offset and place exchanged in a prototype", {HEADER: instead("size_t offset, size_t at, uint32_t edition);", "size_t at, size_t offset, uint32_t edition);")}, ["header"]),
+    ("the two sums of a join exchanged in its prototype", {HEADER: exchanged("struct brothladder_summed first", "struct brothladder_summed second")}, ["header"]),
+    ("a sum and its parity exchanged in source and header", {HEADER: exchanged("    uint16_t sum;", "    uint16_t odd;"), SUMMED: exchanged("pub sum: u16", "pub odd: u16")}, ["layout"]),
     ("high told as low", {HEADER: instead("PREFERENCE_HIGH 1u", "PREFERENCE_HIGH 3u")}, ["header"]),
     ("an argument left out of a prototype", {HEADER: instead("read_prefix(const uint8_t *option, size_t length, size_t offset);", "read_prefix(const uint8_t *option, size_t length);")}, ["header"]),
     ("another number for the first edition", {HEADER: instead("EDITION_FIRST 1u", "EDITION_FIRST 2u")}, ["header"]),

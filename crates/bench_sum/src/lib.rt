@@ -3,7 +3,7 @@ ghost use mathlib.Core.Path.{_≡_};
 ghost use Rattle.checksum.specs.Ones.{words, onesSum};
 
 #[no_mangle]
-pub extern "C" fn brothladder_sum(bytes: &[u8]) -> u16
+pub extern "C" fn brothladder_bench_sum(bytes: &[u8]) -> u16
     ensures { λ r. ⌜ r ≡ onesSum (words (now (bytes .entry))) ⌝ }
 {
     checksum::sum(bytes)

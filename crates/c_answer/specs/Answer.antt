@@ -62,9 +62,13 @@ SERVERS = 15
 abbrev pub PREFERENCE : ℕ
 PREFERENCE = 16
 
+-- a sum of bytes
+abbrev pub SUM : ℕ
+SUM = 17
+
 -- all of them
 abbrev pub answers : List ℕ
-answers = REFUSED ∷ KNOWN ∷ UNKNOWN ∷ VALID ∷ INVALID ∷ OPTION ∷ END ∷ STOPPED ∷ RECEIVED ∷ WRITTEN ∷ PREFIX ∷ CHAIN ∷ ROUTE ∷ IGNORED ∷ SERVERS ∷ PREFERENCE ∷ []
+answers = REFUSED ∷ KNOWN ∷ UNKNOWN ∷ VALID ∷ INVALID ∷ OPTION ∷ END ∷ STOPPED ∷ RECEIVED ∷ WRITTEN ∷ PREFIX ∷ CHAIN ∷ ROUTE ∷ IGNORED ∷ SERVERS ∷ PREFERENCE ∷ SUM ∷ []
 
 -- each number of a list above the one before it, the first above n: then no two are alike, and none is n
 abbrev pub rising : ℕ → List ℕ → Bool

@@ -32,3 +32,5 @@ pub const IGNORED: u32 = 14;
 pub const SERVERS: u32 = 15;
 
 pub const PREFERENCE: u32 = 16;
+
+pub const SUM: u32 = 17;
