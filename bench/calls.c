@@ -15,6 +15,8 @@ typedef struct brothladder_prefix (*prefix_fn)(const uint8_t *, size_t, size_t);
 typedef struct brothladder_route (*route_fn)(const uint8_t *, size_t, size_t);
 typedef struct brothladder_servers (*dns_fn)(const uint8_t *, size_t, size_t);
 typedef struct brothladder_preferred (*preference_fn)(const uint8_t *, size_t);
+typedef struct brothladder_updated (*updated_fn)(const uint8_t *, size_t, size_t, uint16_t);
+typedef struct brothladder_updated (*change_fn)(uint8_t *, size_t, size_t, uint16_t);
 typedef struct brothladder_chain (*chain_fn)(const uint8_t *, size_t, uint32_t);
 typedef struct brothladder_written (*write_fn)(uint8_t, uint8_t, uint32_t, const uint8_t *, size_t, const uint8_t *, const uint8_t *, uint8_t *, size_t,
                                                uint32_t);
@@ -28,6 +30,8 @@ typedef struct brothladder_written (*write_fn)(uint8_t, uint8_t, uint32_t, const
     struct brothladder_route plain_route_##tag(const uint8_t *, size_t, size_t);                                                   \
     struct brothladder_servers plain_dns_##tag(const uint8_t *, size_t, size_t);                                                   \
     struct brothladder_preferred plain_preference_##tag(const uint8_t *, size_t);                                                  \
+    struct brothladder_updated plain_updated_##tag(const uint8_t *, size_t, size_t, uint16_t);                                     \
+    struct brothladder_updated plain_change_##tag(uint8_t *, size_t, size_t, uint16_t);                                            \
     struct brothladder_chain plain_chain_##tag(const uint8_t *, size_t, uint32_t);                                                 \
     struct brothladder_written plain_write_##tag(uint8_t, uint8_t, uint32_t, const uint8_t *, size_t, const uint8_t *,             \
                                                  const uint8_t *, uint8_t *, size_t, uint32_t);                                    \
@@ -45,7 +49,7 @@ __asm__(".text\n.globl nothing\nnothing: mov %rdi, %rax\nret\n");
 enum { CLEARING, DEFAULT, KEEPING, WAYS };
 
 #define SET(name, p, t) {name, p##decode##t, p##verify##t, p##receive##t, p##step##t, p##prefix##t, p##route##t, p##dns##t, p##preference##t, \
-                         {p##write_clearing##t, p##write##t, p##write##t}, p##chain##t}
+                         p##verify##t, p##updated##t, p##change##t, {p##write_clearing##t, p##write##t, p##write##t}, p##chain##t}
 static const struct set {
     const char *name;
     decode_fn decode;
@@ -56,21 +60,25 @@ static const struct set {
     route_fn route;
     dns_fn dns;
     preference_fn preference;
+    verify_fn by_fours;
+    updated_fn updated;
+    change_fn change;
     write_fn write[WAYS];
     chain_fn chain;
 } sets[] = {
     {"nothing", nothing, (verify_fn)nothing, (receive_fn)nothing, (step_fn)nothing, (prefix_fn)nothing, (route_fn)nothing, (dns_fn)nothing,
-     (preference_fn)nothing, {(write_fn)nothing, (write_fn)nothing, (write_fn)nothing}, (chain_fn)nothing},
+     (preference_fn)nothing, (verify_fn)nothing, (updated_fn)nothing, (change_fn)nothing, {(write_fn)nothing, (write_fn)nothing, (write_fn)nothing}, (chain_fn)nothing},
     {"this library", brothladder_decode, brothladder_verify, brothladder_receive, brothladder_step, brothladder_read_prefix, brothladder_read_route,
-     brothladder_read_dns, brothladder_preference, {brothladder_write_clearing, brothladder_write, brothladder_write_keeping}, brothladder_chain},
+     brothladder_read_dns, brothladder_preference, brothladder_verify_by_fours, brothladder_updated_checksum, brothladder_change_word,
+     {brothladder_write_clearing, brothladder_write, brothladder_write_keeping}, brothladder_chain},
     SET("plain C, gcc -O2", plain_, _O2),
     SET("plain C, gcc -O3", plain_, _O3),
     SET("plain C, the toolchain's clang -O3", plain_, _clang),
 };
-enum { SETS = sizeof sets / sizeof *sets, WRITE = 8, CHAIN = WRITE + WAYS, CALLS };
+enum { SETS = sizeof sets / sizeof *sets, WRITE = 11, CHAIN = WRITE + WAYS, CALLS };
 enum { FIRST = BROTHLADDER_EDITION_FIRST, SECOND = BROTHLADDER_EDITION_SECOND };
-static const char *const calls[CALLS] = {"decode", "verify", "receive check", "walk", "prefix", "route", "servers", "preference", "write clearing", "write",
-                                          "write keeping", "chain"};
+static const char *const calls[CALLS] = {"decode", "verify", "receive check", "walk", "prefix", "route", "servers", "preference", "verify by fours",
+                                         "updated checksum", "change word", "write clearing", "write", "write keeping", "chain"};
 
 /* the others do not walk: they take no edition and are measured once */
 static int walks(int call) { return call == 2 || call == 3 || call >= WRITE; }
@@ -89,6 +97,9 @@ static struct brothladder_prefix prefix;
 static struct brothladder_route route;
 static struct brothladder_servers servers;
 static struct brothladder_preferred preferred;
+static struct brothladder_verified wider;
+static struct brothladder_updated updated, changed;
+static uint8_t lent[2048]; /* the packet of which a word is changed */
 static struct brothladder_written written[WAYS];
 static struct brothladder_chain chain;
 static uint8_t out[WAYS][2048];
@@ -114,6 +125,7 @@ static __attribute__((noinline)) void measure(const struct set *s, int call, uin
     const uint8_t *p = r + 37;
     size_t to = p[0] == 134 ? find(p, n, 24) : 0, by = p[0] == 134 ? find(p, n, 25) : 0;
     for (int i = 0; i < 2; i++) { /* once before, so that all is translated */
+        memcpy(lent, p, n);
         mark(-1, 0);
         switch (call) {
         case 0: head = s->decode(p, n); break;
@@ -124,6 +136,9 @@ static __attribute__((noinline)) void measure(const struct set *s, int call, uin
         case 5: route = s->route(p + to, 8 * (size_t)p[to + 1], to); break;
         case 6: servers = s->dns(p + by, 8 * (size_t)p[by + 1], by); break;
         case 7: preferred = s->preference(p, n); break;
+        case 8: wider = s->by_fours(p, n, r + 3, r + 19); break;
+        case 9: updated = s->updated(p, n, 4, 0x1234); break;
+        case 10: changed = s->change(lent, n, 4, 0x1234); break;
         case WRITE + CLEARING:
         case WRITE + DEFAULT:
         case WRITE + KEEPING: {
@@ -146,6 +161,9 @@ static int check(const uint8_t *r, size_t n, uint32_t edition) {
     static struct brothladder_route route0;
     static struct brothladder_servers servers0;
     static struct brothladder_preferred preferred0;
+    static struct brothladder_verified wider0;
+    static struct brothladder_updated updated0, changed0;
+    static uint8_t lent0[2048];
     static struct brothladder_written written0[WAYS];
     static uint8_t out0[WAYS][2048];
     size_t options0 = 0;
@@ -154,13 +172,17 @@ static int check(const uint8_t *r, size_t n, uint32_t edition) {
         for (int c = 0; c < CHAIN; c++) measure(&sets[s], c, edition, -1, r, n);
         if (s == 1) {
             head0 = head, verified0 = verified, received0 = received, stepped0 = stepped, prefix0 = prefix, options0 = options;
-            route0 = route, servers0 = servers, preferred0 = preferred;
+            route0 = route, servers0 = servers, preferred0 = preferred, wider0 = wider, updated0 = updated, changed0 = changed;
+            memcpy(lent0, lent, sizeof lent);
             memcpy(written0, written, sizeof written);
             memcpy(out0, out, sizeof out);
         } else if (memcmp(&head, &head0, sizeof head) || memcmp(&verified, &verified0, sizeof verified) ||
                    memcmp(&received, &received0, sizeof received) || memcmp(&stepped, &stepped0, sizeof stepped) ||
                    memcmp(&prefix, &prefix0, sizeof prefix) || memcmp(&route, &route0, sizeof route) ||
-                   memcmp(&servers, &servers0, sizeof servers) || memcmp(&preferred, &preferred0, sizeof preferred) || memcmp(written, written0, sizeof written) || options != options0 ||
+                   memcmp(&servers, &servers0, sizeof servers) || memcmp(&preferred, &preferred0, sizeof preferred) ||
+                   memcmp(&wider, &wider0, sizeof wider) || memcmp(&updated, &updated0, sizeof updated) ||
+                   memcmp(&changed, &changed0, sizeof changed) || memcmp(lent, lent0, sizeof lent) ||
+                   memcmp(written, written0, sizeof written) || options != options0 ||
                    memcmp(out, out0, sizeof out)) {
             printf("%s answers otherwise in edition %u\n", sets[s].name, edition);
             return 1;

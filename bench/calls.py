@@ -8,7 +8,7 @@ import sys
 from functools import lru_cache
 
 CALLS = ["decode", "verify", "receive", "step", "read_prefix", "read_route", "read_dns", "preference", "write", "write_clearing", "write_keeping", "chain",
-         "sum", "sum_pseudo", "sum_push", "sum_join", "version_5"]
+         "sum", "sum_pseudo", "sum_push", "sum_join", "verify_by_fours", "updated_checksum", "change_word", "version_5"]
 AIM_CODE, AIM_STACK = 16 * 1024, {c: 2048 if c == "chain" else 512 for c in CALLS}
 # the functions that come back to themselves, and how often each is entered at most: a packet and eight levels have nine messages, and the ninth quote is
 # refused (docs/RULES.md Q11)
@@ -34,11 +34,13 @@ def cost(edition, who, call, length):
 
 
 def title(call, length):
-    return call if call in ("decode", "prefix", "route", "servers", "preference") else f"{call}, {CHAINS[length]}" if call == "chain" else f"{call}, {length:,}"
+    return call if call in ("decode", "prefix", "route", "servers", "preference", "updated checksum", "change word") else f"{call}, {CHAINS[length]}" if call == "chain" else f"{call}, {length:,}"
 
 
 columns = [("decode", small), ("receive check", small), ("receive check", large), ("walk", small), ("walk", large), ("prefix", small)]
 columns += [(call, large) for call in ("route", "servers", "preference")]
+columns += [(call, n) for call in ("verify", "verify by fours") for n in (small, large, longest)]
+columns += [("updated checksum", small), ("change word", small)]
 columns += [(way, n) for way in ("write", "write clearing", "write keeping") for n in (small, large, longest)]
 columns += [("chain", n) for n in CHAINS]
 rows = ["| | " + " | ".join(title(c, n) for c, n in columns) + " |", "|---|" + "---|" * len(columns)]

@@ -5,7 +5,9 @@ import sys
 import tempfile
 
 MODELS = {"skylake": "Skylake", "znver3": "Zen 3"}
-WHO = {"brothladder_bench_sum": "this library", "plain": "C, the plain loop", "rfc1071": "C of RFC 1071, section 4.1", "lwip": "lwIP",
+WHO = {"brothladder_bench_sum": "this library, `sum`", "brothladder_bench_sum_by_fours": "`sum_by_fours`",
+       "brothladder_bench_sum_by_sixty_fours": "`sum_by_sixty_fours`", "brothladder_bench_sum_by_two_chains": "`sum_by_two_chains`",
+       "plain": "C, the plain loop", "rfc1071": "C of RFC 1071, section 4.1", "lwip": "lwIP",
        "dpdk": "DPDK `rte_raw_cksum`", "linux_csum": "Linux `csum_partial`"}
 BY = {"O2": "gcc -O2", "O3": "gcc -O3", "clang": "the toolchain's clang -O3"}
 

@@ -51,7 +51,8 @@
  * all of them anew once. Each later change of a struct, an argument or a meaning takes the next number. A call that is added takes none:
  * whoever makes it does not link with a library that lacks it.
  *
- * What you must ensure: each pointer can be read (`out`: written) for the length that goes with it, and an address for 16 bytes. A
+ * What you must ensure: each pointer can be read (`out`: written; the packet of brothladder_change_word: both) for the length that
+ * goes with it, and an address for 16 bytes. A
  * pointer may be NULL only if its length is 0. Nobody else writes to a buffer during the call. `out` does not overlap another
  * buffer of the same call.
  *
@@ -59,8 +60,9 @@
  * stack pointer (x86-64 System V ABI). If your kernel runs without SSE or a red zone, call these functions only where both are
  * available (on Linux between kernel_fpu_begin and kernel_fpu_end).
  *
- * What a call changes: nothing, except the packet's own bytes in `out` when a brothladder_write.. returns BROTHLADDER_WRITTEN. A call
- * that refuses changes no buffer.
+ * What a call changes: nothing, except the packet's own bytes in `out` when a brothladder_write.. returns BROTHLADDER_WRITTEN, and a
+ * word and the checksum field of `packet` when brothladder_change_word returns BROTHLADDER_UPDATED. A call that refuses changes no
+ * buffer.
  */
 #ifndef BROTHLADDER_H
 #define BROTHLADDER_H
@@ -106,6 +108,7 @@ extern "C" {
 #define BROTHLADDER_SERVERS 15u /* dns: a recursive DNS server option */
 #define BROTHLADDER_PREFERENCE 16u /* preference: how far the router is preferred */
 #define BROTHLADDER_SUM 17u     /* sum, sum_pseudo, sum_push, sum_join: a sum of bytes */
+#define BROTHLADDER_UPDATED 18u /* updated_checksum, change_word: the checksum field after a word changed */
 
 /* Values of `refusal`, which says why a call refused; 0 if it did not. `value` has the numbers that go with it, 0 past the last. The
  * last number of 5 to 8 and the one of 18 is the place of the refused option in the packet: `offset` + `at` of a step, `offset` of the
@@ -129,6 +132,7 @@ extern "C" {
 #define BROTHLADDER_REFUSAL_QUOTE_VERSION 16u         /* place          not IP version 6                                      */
 #define BROTHLADDER_REFUSAL_DEEP_QUOTE 17u            /* place          a ninth quote                                         */
 #define BROTHLADDER_REFUSAL_LONG_ROUTE_PREFIX 18u     /* place          (second edition only) a prefix length above 128       */
+#define BROTHLADDER_REFUSAL_NO_WORD 19u               /* place          (updates only) odd, or 2, or not both bytes are there */
 #define BROTHLADDER_REFUSAL_FAR_OFFSET 22u            /* (none) offset + length is above 4294967295: no packet is that long   */
 
 /* value[0] of refusal 11: the first test of the receive check, in this order, that the packet failed. */
@@ -288,6 +292,13 @@ struct brothladder_summed {
     uint16_t odd;    /* 1 if an odd number of bytes is in it, else 0 */
 };
 
+struct brothladder_updated {
+    uint32_t answer; /* UPDATED or REFUSED */
+    uint32_t refusal;
+    uint64_t value[5];
+    uint64_t field; /* the new checksum field, bytes 2 and 3 as one number, high byte first */
+};
+
 /* Decodes the head of a packet. KNOWN: type, code, checksum field and the fields of the type; no field holds reserved bits. UNKNOWN: the
  * type is none of BROTHLADDER_TYPE_.., or it has no such code; field[0] is bytes 4 to 7. `bytes5to8` has them in both cases, reserved
  * bits included. The call does not verify the checksum and does not test the length against the type: brothladder_receive does both.
@@ -300,6 +311,14 @@ struct brothladder_head brothladder_decode(const uint8_t *packet, size_t length)
 BROTHLADDER_ANSWER BROTHLADDER_ADDRESSES(3, 4)
 struct brothladder_verified brothladder_verify(const uint8_t *packet, size_t length, const uint8_t source[16],
                                                const uint8_t destination[16]);
+
+/* The same answer, number by number, for boards with registers of 64 bits: gateway boards call this one. It adds up in 64 bits, 64 bytes at
+ * a time. brothladder_verify keeps its totals within 32 bits: it is for the booster board and every other machine of 32 bits. All other
+ * calls that sum bytes, brothladder_receive and brothladder_write.. among them, sum as brothladder_verify does, on every board.
+ * Refusals: 1, 2. */
+BROTHLADDER_ANSWER BROTHLADDER_ADDRESSES(3, 4)
+struct brothladder_verified brothladder_verify_by_fours(const uint8_t *packet, size_t length, const uint8_t source[16],
+                                                        const uint8_t destination[16]);
 
 /* Checks whether a packet may be used (RFC 4861, sections 6.1, 7.1 and 8.1). Types 133 to 137 get all eight tests, in the order of
  * BROTHLADDER_REASON_..; other types get the checksum test alone. If the answer is RECEIVED, walking the options in the same edition
@@ -395,6 +414,27 @@ struct brothladder_written brothladder_write_keeping(uint8_t type, uint8_t code,
  * their own message. */
 BROTHLADDER_ANSWER
 struct brothladder_chain brothladder_chain(const uint8_t *packet, size_t length, uint32_t edition);
+
+/* What the checksum field of a packet is to be once one 16-bit word of it is another (RFC 1624, equation 3). Pass the packet as it stands,
+ * with its field and its old word; `place` is where the word begins, counted from the packet's first byte; `word` is its new value, the
+ * high byte first on the wire. No address is needed, and of the packet the field and the word alone are looked at:
+ *
+ *     struct brothladder_updated u = brothladder_change_word(packet, length, 4, 0x4000);  // bytes 4 and 5 become 40 00
+ *     if (u.answer != BROTHLADDER_UPDATED)
+ *         return drop(u.refusal, u.value[0]);                                             // nothing was changed
+ *
+ * brothladder_change_word puts the word and the new field into the packet; brothladder_updated_checksum only says what the field would be.
+ * A packet that was valid stays valid, and one that was not is not mended. Where the field was the computed checksum, the new one is the
+ * computed checksum of the changed packet. Where ff ff stood in it for a computed 0, the new field is the computed one too, but where
+ * a word ff ff becomes 00 00: there ff ff stays. A word that is changed to itself leaves the field as it is, but makes 00 00 of ff ff.
+ * Words at several places may be changed in any order. Place 0, type and code, may be changed.
+ * Refusals, in this order: 1, 2; 19 if the place is odd, or 2, which is the field's own, or the word's two bytes are not both in the
+ * packet. */
+BROTHLADDER_ANSWER
+struct brothladder_updated brothladder_updated_checksum(const uint8_t *packet, size_t length, size_t place, uint16_t word);
+
+BROTHLADDER_ANSWER
+struct brothladder_updated brothladder_change_word(uint8_t *packet, size_t length, size_t place, uint16_t word);
 
 /* Sums of bytes that lie in several buffers; docs/SUMS.md says what may be exchanged with what. To verify a packet that lies in two buffers,
  * wherever it is cut:

@@ -96,6 +96,8 @@ void forwards(void); /* packets that are passed on */
 void lengths(void); /* where a piece of the sum ends */
 void editions(void); /* what the second edition looks at, every number of an edition */
 void sums(void);    /* sums of several parts */
+void adders(void);  /* each wider sum and the wider verdict beside the plain ones, at every alignment */
+void updates(void); /* 1,000,000 words changed, beside a fresh checksum */
 void newer(void);   /* routes, servers and the preference, read by themselves */
 void joined(void);  /* option lists cut at every place */
 void damaged(void); /* 100,000 packets, random and damaged, beside plain.c */

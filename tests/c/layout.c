@@ -74,6 +74,10 @@ AT(chain, next_header, 88, 8);
 AT(chain, level_kind, 96, 8);
 ENDS(chain, 104);
 
+BEGINS(updated);
+AT(updated, field, 48, 8);
+ENDS(updated, 56);
+
 AT(summed, answer, 0, 4);
 AT(summed, sum, 4, 2);
 AT(summed, odd, 6, 2);

@@ -14,6 +14,8 @@ int main(void) {
     quotes();
     lengths();
     sums();
+    adders();
+    updates();
     editions_compared();
     printf("%lu passed, %lu failed\n", passed, failed);
     return failed != 0 || passed == 0;

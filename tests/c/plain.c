@@ -114,6 +114,34 @@ struct brothladder_verified plain_verify(const uint8_t *packet, size_t length, c
     return v;
 }
 
+/* M1 and M2: RFC 1624, equation 3; the three numbers come to less than 2^18, so that two rounds take every carry in. */
+struct brothladder_updated plain_updated(const uint8_t *packet, size_t length, size_t place, uint16_t word) {
+    struct brothladder_updated u;
+    memset(&u, 0, sizeof u);
+    u.answer = BROTHLADDER_REFUSED;
+    if ((u.refusal = bad_length(length, u.value)) != 0) return u;
+    if (place % 2 == 1 || place == 2 || place > length - 2) {
+        u.refusal = 19, u.value[0] = place;
+        return u;
+    }
+    uint32_t field = (uint32_t)packet[2] << 8 | packet[3], old = (uint32_t)packet[place] << 8 | packet[place + 1];
+    uint32_t t = 65535 - field + (65535 - old) + word;
+    t = (t & 65535) + (t >> 16);
+    t = (t & 65535) + (t >> 16);
+    u.answer = BROTHLADDER_UPDATED;
+    u.field = 65535 - t;
+    return u;
+}
+
+/* M3. */
+struct brothladder_updated plain_change(uint8_t *packet, size_t length, size_t place, uint16_t word) {
+    struct brothladder_updated u = plain_updated(packet, length, place, word);
+    if (u.answer != BROTHLADDER_UPDATED) return u;
+    packet[place] = (uint8_t)(word >> 8), packet[place + 1] = (uint8_t)word;
+    packet[2] = (uint8_t)(u.field >> 8), packet[3] = (uint8_t)u.field;
+    return u;
+}
+
 /* E1: the number 2 is the second edition, every other number the first. */
 static bool in_second(uint32_t edition) { return edition == 2; }
 

@@ -18,6 +18,8 @@ struct brothladder_prefix plain_prefix(const uint8_t *option, size_t length, siz
 struct brothladder_route plain_route(const uint8_t *option, size_t length, size_t offset);
 struct brothladder_servers plain_dns(const uint8_t *option, size_t length, size_t offset);
 struct brothladder_preferred plain_preference(const uint8_t *packet, size_t length);
+struct brothladder_updated plain_updated(const uint8_t *packet, size_t length, size_t place, uint16_t word);
+struct brothladder_updated plain_change(uint8_t *packet, size_t length, size_t place, uint16_t word);
 struct brothladder_chain plain_chain(const uint8_t *packet, size_t length, uint32_t edition);
 
 /* the checksum that a packet's field should have */

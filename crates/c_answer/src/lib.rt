@@ -34,3 +34,5 @@ pub const SERVERS: u32 = 15;
 pub const PREFERENCE: u32 = 16;
 
 pub const SUM: u32 = 17;
+
+pub const UPDATED: u32 = 18;

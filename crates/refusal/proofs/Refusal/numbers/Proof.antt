@@ -19,26 +19,23 @@ enum-known-self-4 c = search needs
 enum-known-self-5 : tie.Need-enum-known-self-5
 enum-known-self-5 c = search needs
 
-cast-t49 : tie.Need-cast-t49
-cast-t49 c = search needs
+cast-t50 : tie.Need-cast-t50
+cast-t50 c = search needs
 
 enum-known-self-6 : tie.Need-enum-known-self-6
 enum-known-self-6 c = search needs
 
-cast-t54 : tie.Need-cast-t54
-cast-t54 c = search needs
+cast-t55 : tie.Need-cast-t55
+cast-t55 c = search needs
 
 enum-known-self-7 : tie.Need-enum-known-self-7
 enum-known-self-7 c = search needs
 
-cast-t57 : tie.Need-cast-t57
-cast-t57 c = search needs
+cast-t58 : tie.Need-cast-t58
+cast-t58 c = search needs
 
 enum-known-self-8 : tie.Need-enum-known-self-8
 enum-known-self-8 c = search needs
-
-cast-t62 : tie.Need-cast-t62
-cast-t62 c = search needs
 
 cast-t63 : tie.Need-cast-t63
 cast-t63 c = search needs
@@ -49,23 +46,26 @@ cast-t64 c = search needs
 cast-t65 : tie.Need-cast-t65
 cast-t65 c = search needs
 
+cast-t66 : tie.Need-cast-t66
+cast-t66 c = search needs
+
 enum-known-self-9 : tie.Need-enum-known-self-9
 enum-known-self-9 c = search needs
 
 enum-known-self-10 : tie.Need-enum-known-self-10
 enum-known-self-10 c = search needs
 
-cast-t70 : tie.Need-cast-t70
-cast-t70 c = search needs
-
 cast-t71 : tie.Need-cast-t71
 cast-t71 c = search needs
+
+cast-t72 : tie.Need-cast-t72
+cast-t72 c = search needs
 
 enum-known-self-11 : tie.Need-enum-known-self-11
 enum-known-self-11 c = search needs
 
-cast-t73 : tie.Need-cast-t73
-cast-t73 c = search needs
+cast-t74 : tie.Need-cast-t74
+cast-t74 c = search needs
 
 enum-known-self-12 : tie.Need-enum-known-self-12
 enum-known-self-12 c = search needs
@@ -87,6 +87,9 @@ enum-known-self-17 c = search needs
 
 enum-known-self-18 : tie.Need-enum-known-self-18
 enum-known-self-18 c = search needs
+
+enum-known-self-19 : tie.Need-enum-known-self-19
+enum-known-self-19 c = search needs
 
 enum-told : tie.Need-enum-told
 enum-told c = search needs
@@ -146,7 +149,10 @@ returns-18 : tie.Need-returns-18
 returns-18 c = rw (c .before .self18 .given .1)
 
 returns-19 : tie.Need-returns-19
-returns-19 c = rw (c .enum-told .given .1)
+returns-19 c = rw (c .before .self19 .given .1)
+
+returns-20 : tie.Need-returns-20
+returns-20 c = rw (c .enum-told .given .1)
 
 pub numbers-spec : {M : Type 1} → statement M
 numbers-spec =
@@ -157,22 +163,22 @@ numbers-spec =
     enum-known-self-3
     enum-known-self-4
     enum-known-self-5
-    cast-t49
+    cast-t50
     enum-known-self-6
-    cast-t54
+    cast-t55
     enum-known-self-7
-    cast-t57
+    cast-t58
     enum-known-self-8
-    cast-t62
     cast-t63
     cast-t64
     cast-t65
+    cast-t66
     enum-known-self-9
     enum-known-self-10
-    cast-t70
     cast-t71
+    cast-t72
     enum-known-self-11
-    cast-t73
+    cast-t74
     enum-known-self-12
     enum-known-self-13
     enum-known-self-14
@@ -180,6 +186,7 @@ numbers-spec =
     enum-known-self-16
     enum-known-self-17
     enum-known-self-18
+    enum-known-self-19
     enum-told
     returns
     returns-2
@@ -199,4 +206,5 @@ numbers-spec =
     returns-16
     returns-17
     returns-18
-    returns-19)
+    returns-19
+    returns-20)
