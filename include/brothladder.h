@@ -126,7 +126,7 @@ extern "C" {
 #define BROTHLADDER_REFUSAL_KNOWN_PAIR 10u            /* type           code           (no call here returns it)              */
 #define BROTHLADDER_REFUSAL_NOT_RECEIVED 11u          /* BROTHLADDER_REASON_..                                                */
 #define BROTHLADDER_REFUSAL_NO_MARK 12u               /* place          (12 to 14: the dump program only)                     */
-#define BROTHLADDER_REFUSAL_LONG_RECORD 13u           /* length                                                               */
+#define BROTHLADDER_REFUSAL_LONG_RECORD 13u           /* length         above 9000, or not one that the record's mark allows  */
 #define BROTHLADDER_REFUSAL_CAPTURE_ENDS 14u          /* place                                                                */
 #define BROTHLADDER_REFUSAL_SHORT_QUOTE 15u           /* place          (15 to 17: the chain only) under 40 bytes             */
 #define BROTHLADDER_REFUSAL_QUOTE_VERSION 16u         /* place          not IP version 6                                      */

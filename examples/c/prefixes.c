@@ -2,11 +2,12 @@
  *
  *     prefixes [FILE]        reads standard input without FILE
  *
- * A capture is a row of records: 49 36, hop limit, source (16 bytes), destination (16), packet length (2, high byte first), packet. */
+ * A capture is a row of records: a mark, hop limit, source (16 bytes), destination (16), packet length (2, high byte first), packet. The mark is 49 36 of
+ * a packet of up to 2,048 bytes, and 49 37 of a longer one, up to 9,000. */
 #include "brothladder.h"
 #include <stdio.h>
 
-enum { LONGEST_PACKET = 2048, MOST_PREFIXES = (LONGEST_PACKET - 16) / 32 };
+enum { LONGEST_SHORT = 2048, LONGEST_PACKET = 9000, MOST_PREFIXES = (LONGEST_PACKET - 16) / 32 };
 
 /* Named once, and used for the receive check and the walk alike. Who wants prefixes alone goes by the first edition: a malformed route or list of
    servers, which it hands out as unknown, is no reason to leave the prefixes beside it alone. */
@@ -83,14 +84,15 @@ static int next_message(FILE *capture, struct message *m) {
     uint8_t head[37];
     size_t n = fread(head, 1, sizeof head, capture);
     if (n == 0) return ferror(capture) ? -1 : 0;
-    if (n != sizeof head || head[0] != 0x49 || head[1] != 0x36) return -1;
+    if (n != sizeof head || head[0] != 0x49 || (head[1] != 0x36 && head[1] != 0x37)) return -1;
     m->hop_limit = head[2];
     for (int i = 0; i < 16; i++) {
         m->source[i] = head[3 + i];
         m->destination[i] = head[19 + i];
     }
     m->length = (size_t)head[35] * 256 + head[36];
-    if (m->length > LONGEST_PACKET) return -1;
+    /* each record has one form: the mark is that of the packet's length */
+    if (m->length > LONGEST_PACKET || (m->length > LONGEST_SHORT) != (head[1] == 0x37)) return -1;
     return fread(m->packet, 1, m->length, capture) == m->length ? 1 : -1;
 }
 

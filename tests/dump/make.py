@@ -1,6 +1,7 @@
 #!/usr/bin/env python3
 """make.py: writes the stored cases, cases/NAME.rec with cases/NAME.txt beside it, the listing by model.py. Made from the worked example, the
-packets that RFCs print, those on a boundary (boundaries.txt), the shipped capture, and chance from a fixed seed."""
+packets that RFCs print, those on a boundary (boundaries.txt), the shipped capture, every mark with the lengths round its limits, and chance from a fixed
+seed."""
 import ipaddress
 import os
 import random
@@ -16,7 +17,7 @@ ONE, TWO = bytes.fromhex("85007a2c000000000101020000000001"), bytes.fromhex("850
 
 
 def record(packet, hops=255, source=NEAR, destination=ROUTERS):
-    return b"I6" + bytes([hops]) + source + destination + len(packet).to_bytes(2, "big") + packet
+    return (b"I7" if len(packet) > 2048 else b"I6") + bytes([hops]) + source + destination + len(packet).to_bytes(2, "big") + packet
 
 
 def sealed(packet, source, destination):
@@ -45,8 +46,8 @@ case("worked_example", good, "records 2")
 case("empty", b"", "records 0")
 case("one_byte", b"I", "stopped 14 at 0")
 case("one_byte_behind", good + b"I", "stopped 14 at 106")
-case("no_mark", good + b"I7" + bytes(60), "stopped 12 at 106")
-case("wrong_mark_alone", good + b"I7", "stopped 12 at 106")
+case("no_mark", good + b"I8" + bytes(60), "stopped 12 at 106")
+case("wrong_mark_alone", good + b"I5", "stopped 12 at 106")
 case("mark_alone", good + b"I6", "stopped 14 at 106")
 case("head_cut", good + record(ONE)[:36], "stopped 14 at 106")
 case("body_cut", good + record(ONE)[:-1], "stopped 14 at 106")
@@ -55,6 +56,26 @@ case("length_2049", good + b"I6" + bytes(33) + (2049).to_bytes(2, "big") + bytes
 case("length_before_body", good + b"I6" + bytes(33) + b"\xff\xff", "stopped 13 at 106")
 case("short_packets", b"".join(record(ONE[:n]) for n in range(10)), "records 10")
 case("no_packet", record(b"") * 3, "records 3")
+# a mark, a length and so many bytes behind it, or bytes as they are: what stops there. Each alone and behind two records.
+for mark, length, body, stop in [
+        (b"I6", 0, 0, 0), (b"I6", 1, 1, 0), (b"I6", 2048, 2048, 0), (b"I6", 2048, 2047, 14), (b"I6", 2049, 2049, 13), (b"I6", 2049, 0, 13), (b"I6", 9000, 0, 13),
+        (b"I6", 9001, 0, 13), (b"I7", 0, 0, 13), (b"I7", 2048, 2048, 13), (b"I7", 2048, 0, 13), (b"I7", 2049, 2049, 0), (b"I7", 9000, 9000, 0),
+        (b"I7", 2049, 2048, 14), (b"I7", 9000, 8999, 14), (b"I7", 9001, 0, 13), (b"I7", 65535, 0, 13), (b"I7", 2049, -1, 14), (b"I7", 2049, -35, 14), (b"I7", 2049, -36, 14),
+        (b"I5", 0, -35, 12), (b"I8", 0, -35, 12), (b"I8", 2049, 2049, 12)]:
+    row = (mark + b"\xff" + NEAR + ROUTERS + length.to_bytes(2, "big") + bytes([128]) + bytes(9000))[:37 + body]
+    name = f"{mark.decode().lower()}_{length}_" + (f"{body}_behind" if body >= 0 else f"{37 + body}_in_all")
+    case("row_" + name, row, f"stopped {stop} at 0" if stop else "records 1")
+    case("behind_" + name, good + row, f"stopped {stop} at 106" if stop else "records 3")
+# the longest text: 1,124 options of one unit behind the eight bytes of the head; and the same refused at its last option
+options = b"".join(bytes([1 + i % 2, 1, i // 256, i % 256, 0, 0, 0, 0]) for i in range(1124))
+longest = sealed(b"\x85\0\0\0\0\0\0\0" + options, NEAR, ROUTERS)
+assert len(longest) == 9000
+case("longest_text", record(longest) + good, "records 3")
+case("refused_at_the_last", record(sealed(longest[:-7] + b"\0" + longest[-6:], NEAR, ROUTERS)) + good, "records 3")
+assert "refused 6 at 8992" in open(here + "/cases/refused_at_the_last.txt").read()
+# an advertisement with as many prefixes as a record can have
+prefixes = b"".join(b"\x03\x04\x40\xc0" + bytes(12) + b"\x20\x01\x0d\xb8" + i.to_bytes(2, "big") + bytes(10) for i in range(280))
+case("prefixes_280", record(ONE) + record(sealed(b"\x86\0\0\0\x40\0\x07\x08" + bytes(8) + prefixes, NEAR, ROUTERS)) + record(ONE), "records 3")
 real = open(here + "/../../examples/advertisements.rec", "rb").read()
 case("real", real)
 case("real_cut", real[:-5])

@@ -5,6 +5,7 @@ import sys
 WORDS = {1: "unreach", 2: "toobig", 3: "exceeded", 4: "param", 128: "echoreq", 129: "echorep", 133: "rs", 134: "ra", 135: "ns", 136: "na", 137: "redirect"}
 CODES = {1: 7, 3: 2, 4: 11}  # how many are listed; of the others 1
 FIXED = {133: 0, 134: 8, 135: 16, 136: 16, 137: 32}
+LENGTHS = {b"I6": range(2049), b"I7": range(2049, 9001)}  # the lengths that a mark allows
 
 
 def valid(source, destination, packet):
@@ -90,10 +91,10 @@ def listing(capture):
     lines, at, n = ["icmp6 1"], 0, 0
     while at < len(capture):
         rest = capture[at:]
-        stop = 14 if len(rest) < 2 else 12 if rest[:2] != b"I6" else 14 if len(rest) < 37 else 0
+        stop = 14 if len(rest) < 2 else 12 if rest[:2] not in LENGTHS else 14 if len(rest) < 37 else 0
         if not stop:
             length = int.from_bytes(rest[35:37], "big")
-            stop = 13 if length > 2048 else 14 if len(rest) < 37 + length else 0
+            stop = 13 if length not in LENGTHS[rest[:2]] else 14 if len(rest) < 37 + length else 0
         if stop:
             return "\n".join(lines + [f"stopped {stop} at {at}"]) + "\n"
         n += 1

@@ -20,7 +20,7 @@ use Rattle.capture.specs.declared.Next.the-variants.{Found, End, Refused
 use Rattle.capture.specs.Paper.{nextPaper}
 use Rattle.capture.specs.Record.{addressAt, recordOf, isRecord, recordPlaced, placeIn, nextOf}
 use Rattle.capture.specs.Capture.{FoundAt}
-use Rattle.capture.proofs.Seen.{Seen, ended, cut, unmarked, long, found, seen}
+use Rattle.capture.proofs.Seen.{Seen, ended, cut, unmarked, misfit, found, seen}
 
 -- an address whose bytes are there is those bytes
 pub address-there : (s : List ℕ) (at : ℕ) → at + 16 ≤ length s → addressAt s at ≡ take 16 (drop at s)
@@ -45,7 +45,7 @@ module _ (s : List ℕ) (at base : ℕ) where
       by h (ended k) o q = let z = ap (λ (x : Paper). length (x .values)) q in absurd (omega arith)
       by h (cut k l) o q = let z = ap (λ (x : Paper). x .number) q in absurd (omega arith)
       by h (unmarked k l) o q = let z = ap (λ (x : Paper). x .number) q in absurd (omega arith)
-      by h (long k m l) o q = let z = ap (λ (x : Paper). x .number) q in absurd (omega arith)
+      by h (misfit k m l) o q = let z = ap (λ (x : Paper). x .number) q in absurd (omega arith)
       by h (found k m l f) o q =
           record {
             here = ap isRecord (sym o);
@@ -68,7 +68,7 @@ module _ (s : List ℕ) (at base : ℕ) where
       by h (ended k) q = omega (arith, length-drop at s)
       by h (cut k l) q = let z = ap (λ (x : Paper). x .number) q in absurd (omega arith)
       by h (unmarked k l) q = let z = ap (λ (x : Paper). x .number) q in absurd (omega arith)
-      by h (long k m l) q = let z = ap (λ (x : Paper). x .number) q in absurd (omega arith)
+      by h (misfit k m l) q = let z = ap (λ (x : Paper). x .number) q in absurd (omega arith)
       by h (found k m l f) q = let z = ap (λ (x : Paper). length (x .values)) q in absurd (omega arith)
 
   -- a refusal at a place within the bytes is that of the bytes from there on
@@ -81,5 +81,5 @@ module _ (s : List ℕ) (at base : ℕ) where
       by (ended k) q = q
       by (cut k l) q = q
       by (unmarked k l) q = q
-      by (long k m l) q = q
+      by (misfit k m l) q = q
       by (found k m l f) q = let z = ap (λ (x : Paper). x .number) q in absurd (eqb-false _ 0 (refusal-numbered why) z)

@@ -7,12 +7,12 @@ use native.Mathlib.Omega.{arith}
 use Rattle.paper.specs.Each.{Each}
 use Rattle.wire.specs.Prefix.{begins}
 use Rattle.output.specs.Output.{over}
-use Rattle.capture.specs.Record.{recordOf, nextOf, recorded}
+use Rattle.capture.specs.Record.{marked, allowed, recordOf, nextOf, recorded}
 use Rattle.capture.specs.Capture.{RecordAt, RecordsTouch}
 use Rattle.capture.specs.Cases.{table, Claim}
 
 pub hold : Each Claim table
-unfolding nextOf recordOf begins recorded over
+unfolding nextOf recordOf marked allowed begins recorded over
 hold = (refl, (refl, (refl, (refl, (refl, (refl, (refl, (refl, (refl, (refl, (refl, (refl, (refl, (refl, (refl, tt)))))))))))))))
 
 -- two records of one byte each, the second at a place

@@ -9,8 +9,7 @@ use lib.Dec.{eqb}
 use lib.ListN.{length}
 use borrow.Author.Tests.{eq-eqb, ne-eqb, lt-ltb, le-ltb}
 use Rattle.paper.specs.Paper.{refuses, gives}
-use Rattle.wire.specs.Prefix.{begins}
-use Rattle.capture.specs.Record.{mark, hopLimit, packetLen, recordOf}
+use Rattle.capture.specs.Record.{hopLimit, packetLen, marked, allowed, recordOf}
 
 -- s from the record's first byte on
 module _ (s : List ℕ) (place : ℕ) where
@@ -27,25 +26,25 @@ module _ (s : List ℕ) (place : ℕ) where
     not-none : eqb (length s) 0 ≡ false
     not-none = ne-eqb (length s) 0 (λ e. omega arith)
 
-    pub not-marked : begins mark s ≡ false → recordOf s place ≡ refuses 12 (place ∷ [])
+    pub not-marked : marked s ≡ false → recordOf s place ≡ refuses 12 (place ∷ [])
     unfolding recordOf
     not-marked m = simp (not-none, le-ltb _ _ two, m)
 
-    module _ (m : begins mark s ≡ true) where
+    module _ (m : marked s ≡ true) where
       pub head-cut : length s < 37 → recordOf s place ≡ refuses 14 (place ∷ [])
       unfolding recordOf
       head-cut h = simp (not-none, le-ltb _ _ two, m, lt-ltb _ _ h)
 
       module _ (head : 37 ≤ length s) where
-        pub too-long : 2048 < packetLen s → recordOf s place ≡ refuses 13 (packetLen s ∷ [])
+        pub not-allowed : allowed s ≡ false → recordOf s place ≡ refuses 13 (packetLen s ∷ [])
         unfolding recordOf
-        too-long h = simp (not-none, le-ltb _ _ two, m, le-ltb _ _ head, lt-ltb _ _ h)
+        not-allowed h = simp (not-none, le-ltb _ _ two, m, le-ltb _ _ head, h)
 
-        module _ (few : packetLen s ≤ 2048) where
+        module _ (fit : allowed s ≡ true) where
           pub body-cut : length s - 37 < packetLen s → recordOf s place ≡ refuses 14 (place ∷ [])
           unfolding recordOf
-          body-cut h = simp (not-none, le-ltb _ _ two, m, le-ltb _ _ head, le-ltb _ _ few, lt-ltb _ _ h)
+          body-cut h = simp (not-none, le-ltb _ _ two, m, le-ltb _ _ head, fit, lt-ltb _ _ h)
 
           pub whole : packetLen s ≤ length s - 37 → recordOf s place ≡ gives (hopLimit s ∷ packetLen s ∷ [])
           unfolding recordOf
-          whole h = simp (not-none, le-ltb _ _ two, m, le-ltb _ _ head, le-ltb _ _ few, le-ltb _ _ h)
+          whole h = simp (not-none, le-ltb _ _ two, m, le-ltb _ _ head, fit, le-ltb _ _ h)

@@ -8,7 +8,7 @@ use lib.Dec.{eqb}
 use lib.ListN.{length, take, drop}
 use Rattle.paper.specs.Paper.{Paper}
 use Rattle.capture.specs.declared.Record.{Record}
-use Rattle.capture.specs.Record.{hopLimit, packetLen, recordOf, isRecord}
+use Rattle.capture.specs.Record.{longest, hopLimit, packetLen, recordOf, isRecord}
 
 -- a record: the place of its first byte, and its bytes
 pub record RecordAt : Type 0 where
@@ -28,6 +28,10 @@ settled p = isRecord p || (eqb (p .number) 12 || eqb (p .number) 13)
 
 abbrev pub recordLen : List ℕ → ℕ
 recordLen s = 37 + packetLen s
+
+-- the most bytes of a record that is cut off: one fewer than the longest record has
+abbrev pub longestCut : ℕ
+longestCut = 36 + longest
 
 -- records, and then a capture
 abbrev pub recordsThen : List RecordAt → Capture → Capture

@@ -1,18 +1,36 @@
--- A record of a capture: its parts, and what is found at a place (docs/RULES.md C1 to C4, C7).
+-- A record of a capture: its parts, and what is found at a place (docs/RULES.md C1 to C4, C7, C9).
 -- Assumes nothing.
 use Prim.Native.Nat.{ℕ, _+_, _-_, _/_, _%_, _^_}
-use mathlib.Core.Bool.{Bool, cond, not}
+use mathlib.Core.Bool.{Bool, cond, not, _&&_, _||_}
 use mathlib.Core.List.{List, [], _∷_, _++_}
-use lib.Dec.{ltb, eqb}
+use lib.Dec.{ltb, leb, eqb}
 use lib.ListN.{length, getD, take, drop, replicate}
 use Rattle.paper.specs.Paper.{Paper, refuses, gives}
 use Rattle.wire.specs.Prefix.{begins}
 use Rattle.output.specs.Output.{over, roomFor}
 use Rattle.wire.specs.Wire.{word16At}
 
--- "I6" in ASCII
+-- the mark of a short packet, "I6" in ASCII, and of a long one, "I7"
 abbrev pub mark : List ℕ
 mark = 73 ∷ 54 ∷ []
+
+abbrev pub longMark : List ℕ
+longMark = 73 ∷ 55 ∷ []
+
+-- the most bytes of a short packet, and of any
+abbrev pub longestShort : ℕ
+longestShort = 2048
+
+abbrev pub longest : ℕ
+longest = 9000
+
+-- the mark of a packet's length (C9)
+abbrev pub markOf : ℕ → List ℕ
+markOf n = cond (ltb longestShort n) longMark mark
+
+-- whether the length is one that the mark at hand allows: the long mark, or the other
+abbrev pub allows : Bool → ℕ → Bool
+allows long n = cond long (ltb longestShort n && leb n longest) (leb n longestShort)
 
 -- the parts of a record that begins with the first byte of s
 abbrev pub hopLimit : List ℕ → ℕ
@@ -30,13 +48,20 @@ packetLen s = word16At s 35
 abbrev pub packet : List ℕ → List ℕ
 packet s = take (packetLen s) (drop 37 s)
 
+-- whether s begins with one of the two marks, and whether its mark allows its length
+unfoldable pub marked : List ℕ → Bool
+marked s = begins mark s || begins longMark s
+
+unfoldable pub allowed : List ℕ → Bool
+allowed s = allows (begins longMark s) (packetLen s)
+
 -- the address at a place: 16 bytes, 0 in place of those that are not there
 abbrev pub addressAt : List ℕ → ℕ → List ℕ
 addressAt s at = over (replicate 16 0) 0 (take 16 (drop at s))
 
--- a record from its parts
+-- a record from its parts: its mark follows from its packet's length
 unfoldable pub recordBytes : ℕ → List ℕ → List ℕ → List ℕ → List ℕ
-recordBytes hop src dst p = mark ++ (hop ∷ []) ++ src ++ dst ++ (length p / 256 ∷ length p % 256 ∷ []) ++ p
+recordBytes hop src dst p = markOf (length p) ++ (hop ∷ []) ++ src ++ dst ++ (length p / 256 ∷ length p % 256 ∷ []) ++ p
 
 -- What stands at the head of s, the bytes from a place of the capture to its end: the tests of C2, in its order. If no byte is left the
 -- capture ends. Told of a record: its hop limit and its packet's length.
@@ -44,9 +69,9 @@ unfoldable pub recordOf : List ℕ → ℕ → Paper
 recordOf s place =
     cond (eqb (length s) 0) (gives [])
     (cond (ltb (length s) 2) (refuses 14 (place ∷ []))
-    (cond (not (begins mark s)) (refuses 12 (place ∷ []))
+    (cond (not (marked s)) (refuses 12 (place ∷ []))
     (cond (ltb (length s) 37) (refuses 14 (place ∷ []))
-    (cond (ltb 2048 (packetLen s)) (refuses 13 (packetLen s ∷ []))
+    (cond (not (allowed s)) (refuses 13 (packetLen s ∷ []))
     (cond (ltb (length s - 37) (packetLen s)) (refuses 14 (place ∷ []))
     (gives (hopLimit s ∷ packetLen s ∷ [])))))))
 
@@ -74,7 +99,7 @@ nextOf s at base =
 
 -- an answer that is given only where a record can hold the packet, else refusal 13
 unfoldable pub recorded : List ℕ → Paper → Paper
-recorded p answer = cond (ltb 2048 (length p)) (refuses 13 (length p ∷ [])) answer
+recorded p answer = cond (ltb longest (length p)) (refuses 13 (length p ∷ [])) answer
 
 -- a record of a packet written at the start of an output: refusal 13, then 9, or its length
 abbrev pub writeRecordOf : List ℕ → List ℕ → Paper

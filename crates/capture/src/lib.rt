@@ -1,15 +1,21 @@
-// One record of a capture, read (docs/RULES.md C1 to C6, C8).
+// One record of a capture, read (docs/RULES.md C1 to C6, C8, C9).
 ghost use mathlib.Core.Path.{_≡_};
 ghost use Prim.Native.Nat.{_+_, _<_};
 ghost use lib.ListN.{length, take, drop};
-ghost use Rattle.capture.specs.Record.{addressAt, recordOf, recordPlaced, nextOf};
+ghost use Rattle.capture.specs.Record.{allows, marked as Record·marked, addressAt, recordOf, recordPlaced, nextOf};
 ghost use Rattle.capture.specs.Paper.{nextPaper};
 use refusal::Refusal;
 
 // The bytes before the packet: the mark, a hop limit, two addresses and the packet's length.
 pub const HEAD_LEN: usize = 37;
 
-pub const MAX_PACKET_LEN: usize = 2048;
+// The longest packet of a record, and the longest one under the first mark, 49 36: longer ones have the second, 49 37.
+pub const MAX_PACKET_LEN: usize = 9000;
+
+pub const MAX_SHORT_LEN: usize = 2048;
+
+// The longest record, in bytes.
+pub const MAX_RECORD_LEN: usize = HEAD_LEN + MAX_PACKET_LEN;
 
 // Where the parts of a record stand in the capture; `next` is the place after its last byte.
 pub struct Record {
@@ -50,14 +56,14 @@ fn first_record(left: &[u8], at: usize, place: u64) -> Next
     if left.len() < 2 {
         return Next::Refused(Refusal::CaptureEnds { place });
     }
-    if !wire::begins_with(left, b"I6") {
+    if !marked(left) {
         return Next::Refused(Refusal::NoMark { place });
     }
     if left.len() < HEAD_LEN {
         return Next::Refused(Refusal::CaptureEnds { place });
     }
     let len = wire::u16_from_be(left[35], left[36]) as usize;
-    if MAX_PACKET_LEN < len {
+    if !allowed(wire::begins_with(left, b"I7"), len) {
         return Next::Refused(Refusal::LongRecord { length: len });
     }
     if left.len() - HEAD_LEN < len {
@@ -71,6 +77,29 @@ fn first_record(left: &[u8], at: usize, place: u64) -> Next
         len,
         next: at + HEAD_LEN + len,
     })
+}
+
+// Whether bytes begin with one of the marks.
+fn marked(left: &[u8]) -> bool
+    ensures { λ r. ⌜ r ≡ Record·marked (now (left .entry)) ⌝ }
+{
+    if wire::begins_with(left, b"I6") {
+        return true;
+    }
+    wire::begins_with(left, b"I7")
+}
+
+// Whether a mark allows a packet's length: each record has one form.
+fn allowed(long: bool, len: usize) -> bool
+    ensures { λ r. ⌜ r ≡ allows long len ⌝ }
+{
+    if !long {
+        return len <= MAX_SHORT_LEN;
+    }
+    if len <= MAX_SHORT_LEN {
+        return false;
+    }
+    len <= MAX_PACKET_LEN
 }
 
 // The bytes from a place on, `len` of them or as many as there are. Use it to get an address or the packet of a record.

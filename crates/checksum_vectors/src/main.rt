@@ -4,6 +4,7 @@
 // how many heads that were read, given their checksum anew and written are those that came in: clearing, and by the default.
 ghost use Prim.Native.Nat.{_+_, _≤_};
 ghost use lib.ListN.{length};
+ghost use Rattle.capture.specs.Record.{longest};
 use capture::Next;
 use capture::Record;
 use capture::next_record;
@@ -163,8 +164,8 @@ struct Tally {
 }
 
 fn tally_of(packet: &[u8], survivors: u64, source: &[u8; 16], destination: &[u8; 16]) -> Tally
-    requires { ⌜ survivors ≤ 2048 ⌝ }
-    ensures { λ r. ⌜ (r .survivors ≤ 2048) × (r .cleared ≤ 1) × (r .kept ≤ 1) ⌝ }
+    requires { ⌜ survivors ≤ longest ⌝ }
+    ensures { λ r. ⌜ (r .survivors ≤ longest) × (r .cleared ≤ 1) × (r .kept ≤ 1) ⌝ }
 {
     match Icmpv6Header::from_slice(packet) {
         HeaderRead::Header(read) => Tally {
@@ -182,7 +183,7 @@ fn tally_of(packet: &[u8], survivors: u64, source: &[u8; 16], destination: &[u8;
 
 // A record's line.
 fn run_record(records: &[u8], found: Record) -> Tally
-    ensures { λ r. ⌜ (r .survivors ≤ 2048) × (r .cleared ≤ 1) × (r .kept ≤ 1) ⌝ }
+    ensures { λ r. ⌜ (r .survivors ≤ longest) × (r .cleared ≤ 1) × (r .kept ≤ 1) ⌝ }
 {
     let source = capture::address(records, found.source);
     let destination = capture::address(records, found.destination);
@@ -192,7 +193,7 @@ fn run_record(records: &[u8], found: Record) -> Tally
     if capture::MAX_PACKET_LEN < packet.len() {
         return tally_of(packet, 0, &source, &destination);
     }
-    let mut copy = [0u8; 2048];
+    let mut copy = [0u8; capture::MAX_PACKET_LEN];
     let survivors = count_survivors(&mut copy, packet, &source, &destination);
     tally_of(packet, survivors, &source, &destination)
 }

@@ -18,14 +18,14 @@ use Rattle.refusal.specs.Paper.{refusal}
 use Rattle.refusal.proofs.Paper.{refusal-numbered}
 use Rattle.output.proofs.Wrote.{_then_, nothing, start}
 use Rattle.capture.specs.declared.Record.{Record}
-use Rattle.capture.specs.Record.{hopLimit, source, destination, packet, packetLen, addressAt, recordOf, isRecord, placeIn}
-use Rattle.capture.specs.Capture.{recordLen, captureFrom}
+use Rattle.capture.specs.Record.{longest, hopLimit, source, destination, packet, packetLen, addressAt, recordOf, isRecord, placeIn}
+use Rattle.capture.specs.Capture.{recordLen, longestCut, captureFrom}
 use Rattle.capture.proofs.Judged.{none-left}
 use Rattle.capture.proofs.Laws.{is-found, few-left, no-record, refused-settled}
 use Rattle.capture.proofs.Calls.{address-there}
 use Rattle.capture.specs.Capture.{FoundAt}
 use Rattle.dump_lines.specs.Text.{recordsLine, stoppedLine}
-use Rattle.listing.specs.Packet.{recordText}
+use Rattle.listing.specs.Packet.{recordText, room}
 use Rattle.listing.specs.Whole.{restText}
 use Rattle.listing.proofs.Whole.{on-stop, on-record-more, on-stop-more}
 use Rattle.dump.specs.declared.scan.Progress.{Progress}
@@ -43,7 +43,7 @@ pub record Parts (s : List ℕ) (at : ℕ) (r : Record) : Type 0 where
   pub from : addressAt s (r .source) ≡ source (drop at s)
   pub to : addressAt s (r .destination) ≡ destination (drop at s)
   pub body : take (r .len) (drop (r .packet) s) ≡ packet (drop at s)
-  pub few : length (packet (drop at s)) ≤ 2048
+  pub few : length (packet (drop at s)) ≤ longest
 
 pub parts : (s : List ℕ) (at place : ℕ) (r : Record) → FoundAt s at place r → Parts s at r
 parts s at place r f =
@@ -70,7 +70,7 @@ module _ (s : List ℕ) (place count : ℕ) (why : Refusal) (is : refusal why �
   stops-for-good n t =
       on-stop-more count place s t (no-record s place numbered) (refused-settled s place numbered (λ e. n (ap (λ (p : Paper). p .number) is ∙ e))) ∙ stopped
 
-  pub few-here : number why ≡ 14 → length s ≤ 2084
+  pub few-here : number why ≡ 14 → length s ≤ longestCut
   few-here e = few-left s place (sym (ap (λ (p : Paper). p .number) is) ∙ e)
 
   -- whatever follows, if nothing follows bytes that are missing
@@ -89,7 +89,7 @@ ends-here place count s h = let none = none-left s place h in on-stop count plac
 module _ (place : ℕ) (bytes : List ℕ) (end : Bool) (out : List ℕ) (s : Progress) (inside : s .at ≤ length bytes) (counted : s .count ≤ place + s .at) where
   -- nothing is put
   pub waits : (r : Progress) → s .put ≤ length out → r .at ≡ s .at → r .count ≡ s .count → r .put ≡ s .put → isGoing (r .stage) ≡ false → isDone (r .stage) ≡ false
-      → (isHungry (r .stage) ≡ true → (end ≡ false) × (length bytes ≤ s .at + 2084)) → (isHungry (r .stage) ≡ false → length out < s .put + 33024)
+      → (isHungry (r .stage) ≡ true → (end ≡ false) × (length bytes ≤ s .at + longestCut)) → (isHungry (r .stage) ≡ false → length out < s .put + room)
       → Stepped place bytes end out out s r
   waits r fits at count put going done wants full =
       record {

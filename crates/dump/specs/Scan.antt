@@ -7,8 +7,8 @@ use mathlib.Core.List.{List, [], _++_}
 use lib.ListN.{length, take, drop}
 use Rattle.output.specs.Output.{Wrote}
 use Rattle.capture.specs.Record.{hopLimit, source, destination, packet}
-use Rattle.capture.specs.Capture.{recordLen, captureFrom}
-use Rattle.listing.specs.Packet.{recordText}
+use Rattle.capture.specs.Capture.{recordLen, longestCut, captureFrom}
+use Rattle.listing.specs.Packet.{recordText, room}
 use Rattle.listing.specs.Whole.{restText}
 use Rattle.dump.specs.declared.scan.Progress.{Progress}
 use Rattle.dump.specs.declared.scan.Stage.the-variants.{Going, Done}
@@ -50,8 +50,8 @@ pub record Stepped (place : ℕ) (bytes : List ℕ) (ended : Bool) (out out′ :
   -- no text without a record or the last line
   pub still : r .at ≡ s .at → isDone (r .stage) ≡ false → r .put ≡ s .put
   -- what is waited for
-  pub wants : isHungry (r .stage) ≡ true → (ended ≡ false) × (length bytes ≤ r .at + 2084)
-  pub full : isGoing (r .stage) ≡ false → isHungry (r .stage) ≡ false → isDone (r .stage) ≡ false → length out < r .put + 33024
+  pub wants : isHungry (r .stage) ≡ true → (ended ≡ false) × (length bytes ≤ r .at + longestCut)
+  pub full : isGoing (r .stage) ≡ false → isHungry (r .stage) ≡ false → isDone (r .stage) ≡ false → length out < r .put + room
 
 -- all of the way: the text is what stands at the start of the text buffer
 pub record Scanned (place : ℕ) (bytes : List ℕ) (ended : Bool) (at count : ℕ) (out′ : List ℕ) (r : Progress) : Type 0 where
@@ -61,5 +61,5 @@ pub record Scanned (place : ℕ) (bytes : List ℕ) (ended : Bool) (at count : �
   pub fits : r .put ≤ 65536
   pub more : isDone (r .stage) ≡ false → (t : List ℕ) → left place bytes at count t ≡ take (r .put) out′ ++ left place bytes (r .at) (r .count) t
   pub last : isDone (r .stage) ≡ true → (t : List ℕ) → (ended ≡ true → t ≡ []) → left place bytes at count t ≡ take (r .put) out′
-  pub wants : isHungry (r .stage) ≡ true → (ended ≡ false) × (length bytes ≤ r .at + 2084)
+  pub wants : isHungry (r .stage) ≡ true → (ended ≡ false) × (length bytes ≤ r .at + longestCut)
   pub moved : isHungry (r .stage) ≡ false → isDone (r .stage) ≡ false → at < r .at

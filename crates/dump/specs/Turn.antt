@@ -5,6 +5,7 @@ use mathlib.Core.Path.{_≡_}
 use mathlib.Core.Bool.{true, false, cond}
 use mathlib.Core.List.{List, [], _++_}
 use lib.ListN.{take, drop}
+use Rattle.capture.specs.Capture.{longestCut}
 use Rattle.dump.specs.declared.State.{State}
 use Rattle.dump.specs.Stage.{isHungry, isDone, isTurning}
 use Rattle.dump.specs.Scan.{left}
@@ -27,7 +28,7 @@ pub record Held (s : State) : Type 0 where
   pub room : s .filled ≤ 65536
   pub counted : s .count ≤ s .place + s .at
   pub near : s .place ≤ 4611686018427453440
-  pub few : isHungry (s .stage) ≡ true → (s .filled ≤ s .at + 2084) × (s .ended ≡ false)
+  pub few : isHungry (s .stage) ≡ true → (s .filled ≤ s .at + longestCut) × (s .ended ≡ false)
 
 -- how far reading and listing are, and a bit more where bytes are wanted
 abbrev pub far : State → ℕ

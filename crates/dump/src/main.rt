@@ -7,6 +7,7 @@ ghost use mathlib.Core.Path.{_≡_};
 ghost use mathlib.Core.Bool.{true, false};
 ghost use Prim.Native.Nat.{_+_, _-_, _≤_};
 ghost use lib.ListN.{length, take, drop};
+ghost use Rattle.capture.specs.Capture.{longestCut};
 ghost use Rattle.dump_lines.specs.Text.{titleLine};
 ghost use Rattle.dump.specs.Stage.{isHungry, isTurning};
 ghost use Rattle.dump.specs.Ends.{Taken·in, Handed};
@@ -21,6 +22,9 @@ use scan::Stage;
 
 // No piece begins farther in the capture: up to there no count and no place can wrap.
 const FARTHEST: u64 = 4611686018427387904;
+
+// The most bytes of a record that is not all there.
+const LONGEST_CUT: usize = capture::MAX_RECORD_LEN - 1;
 
 // The bytes that are held, the place of the next record in them, the place of the first of them in the capture, and the records so far; whether the
 // input has ended, and how the listing stands. Then what the last turn read, and what it handed over.
@@ -64,10 +68,10 @@ fn turning(s: State) -> bool
 
 // Moves the bytes from a place up to another to the front.
 fn keep(buf: &mut [u8], from: usize, to: usize)
-    requires { ⌜ (from ≤ to) × (to ≤ length (now buf)) × (to ≤ from + 2084) ⌝ }
+    requires { ⌜ (from ≤ to) × (to ≤ length (now buf)) × (to ≤ from + longestCut) ⌝ }
     ensures { λ _. ⌜ take (to - from) (now (buf .exit)) ≡ take (to - from) (drop from (now (buf .entry))) ⌝ }
 {
-    let mut kept = [0u8; 2084];
+    let mut kept = [0u8; LONGEST_CUT];
     let n = bytes::copy(&buf[from..to], &mut kept);
     bytes::copy(&kept[..n], buf);
 }

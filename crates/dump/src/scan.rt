@@ -4,6 +4,7 @@ ghost use mathlib.Core.Bool.{true, false};
 ghost use Prim.Native.Nat.{_+_, _<_, _≤_};
 ghost use lib.ListN.{length};
 ghost use Rattle.capture.specs.Capture.{FoundAt};
+ghost use Rattle.listing.specs.Packet.{room};
 ghost use Rattle.dump_lines.specs.Line.{text};
 ghost use Rattle.dump.specs.Stage.{isGoing};
 ghost use Rattle.dump.specs.Scan.{Record·put, Line·put, Stepped, Scanned};
@@ -57,7 +58,7 @@ fn going(s: Progress) -> bool
 
 // The text of the record at the place of the next one.
 fn list_record(bytes: &[u8], out: &mut [u8], place: u64, s: Progress, found: Record) -> Progress
-    requires { ⌜ (s .count ≤ place + s .at) × (place + length (now bytes) < 9223372036854775808) × (s .put + 33024 ≤ length (now out)) ⌝ }
+    requires { ⌜ (s .count ≤ place + s .at) × (place + length (now bytes) < 9223372036854775808) × (s .put + room ≤ length (now out)) ⌝ }
     requires { ⌜ FoundAt (now bytes) (s .at) (place + s .at) found ⌝ }
     ensures { λ r. ⌜ Record·put place (now (bytes .entry)) (now (out .entry)) (now (out .exit)) s r ⌝ }
 {
@@ -90,7 +91,7 @@ fn list_record(bytes: &[u8], out: &mut [u8], place: u64, s: Progress, found: Rec
 
 // The last line.
 fn list_last(out: &mut [u8], s: Progress, line: Line) -> Progress
-    requires { ⌜ s .put + 33024 ≤ length (now out) ⌝ }
+    requires { ⌜ s .put + room ≤ length (now out) ⌝ }
     ensures { λ r. ⌜ Line·put (text line) (now (out .entry)) (now (out .exit)) s r ⌝ }
 {
     match dump_lines::put_line(out, s.put, line) {

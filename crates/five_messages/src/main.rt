@@ -8,6 +8,11 @@ ghost use lib.ListN.{drop};
 ghost use Rattle.icmpv6.specs.Head.{byDefault, headerTold};
 ghost use Rattle.checksum.specs.Told.{computed};
 ghost use Rattle.icmpv6_checksum.specs.Header.{calcBy, headerAfter};
+use capture::MAX_PACKET_LEN;
+use capture::MAX_RECORD_LEN;
+use capture::MAX_SHORT_LEN;
+use capture::Next;
+use capture::next_record;
 use capture::part;
 use checksum::Computed;
 use icmpv6::icmpv6_header::HeaderRead;
@@ -480,10 +485,44 @@ fn redirect() {
     send(Icmpv6Type::Redirect, &ROUTER, &HOST, &payload);
 }
 
+// Whether a packet's record begins with a mark and is read back.
+fn comes_back(packet: &[u8], mark: &[u8]) -> bool {
+    let mut out = [0u8; MAX_RECORD_LEN];
+    let Written::To(_) = write_record(255, &HOST, &ROUTER, packet, &mut out) else {
+        return false;
+    };
+    if !wire::begins_with(&out, mark) {
+        return false;
+    }
+    match next_record(&out, 0, 0) {
+        Next::Found(found) => found.len == packet.len(),
+        Next::End => false,
+        Next::Refused(_) => false,
+    }
+}
+
+// Packets on either side of the limit of the first mark, the longest, and one that no record holds.
+fn long_records() {
+    let zeros = [0u8; MAX_PACKET_LEN + 1];
+    if !comes_back(part(&zeros, 0, MAX_SHORT_LEN), b"I6") {
+        say(b"not the first mark\n");
+    }
+    if !comes_back(part(&zeros, 0, MAX_SHORT_LEN + 1), b"I7") {
+        say(b"not the second mark\n");
+    }
+    if !comes_back(part(&zeros, 0, MAX_PACKET_LEN), b"I7") {
+        say(b"not the longest record\n");
+    }
+    if comes_back(&zeros, b"I7") {
+        say(b"a record that is too long\n");
+    }
+}
+
 fn main() {
     router_solicitation();
     router_advertisement();
     neighbor_solicitation();
     neighbor_advertisement();
     redirect();
+    long_records();
 }

@@ -19,7 +19,7 @@ use Rattle.ndp_options.specs.Editions.{ruleBy}
 use Rattle.ndp_option_list.specs.Whole.{occurs}
 use Rattle.dump_lines.specs.Digits.{decimalBy, decimal}
 use Rattle.dump_lines.specs.Text.{ascii, field}
-use Rattle.capture.specs.Record.{recordBytes, recordOf}
+use Rattle.capture.specs.Record.{marked, allowed, recordBytes, recordOf}
 use Rattle.capture.specs.Capture.{captureBy, captureFrom}
 use Rattle.listing.specs.Packet.{headText, itemsText, optionsText, packetText, recordText}
 use Rattle.listing.specs.Whole.{recordsText, restText, listingOf}
@@ -43,5 +43,5 @@ packet low units = 133 ∷ 0 ∷ 122 ∷ low ∷ 0 ∷ 0 ∷ 0 ∷ 0 ∷ 1 ∷ u
 
 document : listingOf (recordBytes 255 source destination (packet 44 1) ++ recordBytes 255 source destination (packet 45 0))
     ≡ ascii "icmp6 1\nrecord 1 at 0\nrs code 0 sum 7a2c ok len 16 recv 0\nopt 8 type 1 bytes 8\nend 1\nrecord 2 at 53\nrs code 0 sum 7a2d ok len 16 recv 5\nrefused 6 at 8\nrecords 2\n"
-unfolding zeros source destination packet sized known fixedLen payloadOf byBytes _⊕_ sumOf verdictOf begins firstOf ownOf optionReasons reasons reasonOf judge walkOn walkFrom ruleBy rule occurs decimalBy decimal field recordBytes recordOf captureBy captureFrom headText itemsText optionsText packetText recordText recordsText restText
+unfolding zeros source destination packet sized known fixedLen payloadOf byBytes _⊕_ sumOf verdictOf begins firstOf ownOf optionReasons reasons reasonOf judge walkOn walkFrom ruleBy rule occurs decimalBy decimal field marked allowed recordBytes recordOf captureBy captureFrom headText itemsText optionsText packetText recordText recordsText restText
 document = refl

@@ -1,7 +1,7 @@
 -- docs/RULES.md D2 to D6, D9: the text of one record, over the dispatch, the verdict, and the receive check and the
 -- option walk of the first edition.
 -- Assumes nothing.
-use Prim.Native.Nat.{ℕ, _+_, _≤_}
+use Prim.Native.Nat.{ℕ, _+_, _-_, _*_, _≤_}
 use mathlib.Core.Path.{_≡_}
 use mathlib.Core.Bool.{cond}
 use mathlib.Core.List.{List, [], _∷_, _++_}
@@ -17,7 +17,7 @@ use Rattle.ndp_walk.specs.Walk.{Item, Ending, Clean, RefusedAt, Walk}
 use Rattle.ndp_options.specs.Walk.{walkFrom}
 use Rattle.ndp_options.specs.declared.Edition.the-variants.{First}
 use Rattle.output.specs.Output.{roomFor, leaves}
-use Rattle.capture.specs.Record.{recorded}
+use Rattle.capture.specs.Record.{longest, recorded}
 use Rattle.dump_lines.specs.Line.{wordFor, okWord}
 use Rattle.dump_lines.specs.Text.{recordLine, headLine, optLine, endLine, refusedAtLine, refusedLine}
 
@@ -58,10 +58,25 @@ recordText number place hop source destination p = recordLine number place ++ pa
 abbrev pub putOf : List ℕ → List ℕ → List ℕ → ℕ → Paper
 putOf packet text out at = recorded packet (roomFor (length text) out at)
 
--- and the text of a record has at most 33,024 bytes
+-- The most bytes of text. A line has at most 128; that of an option at most 31, and an option at least eight bytes: so of a walk over n bytes of options
+-- four for each and the last line's.
+abbrev pub walkRoom : ℕ → ℕ
+walkRoom n = 4 * n + 128
+
+-- of the options of the longest packet, which are behind its eight bytes of head; with the line of the head; with the line of the record: 36,352
+abbrev pub optionsRoom : ℕ
+optionsRoom = walkRoom (longest - 8)
+
+abbrev pub packetRoom : ℕ
+packetRoom = optionsRoom + 128
+
+abbrev pub room : ℕ
+room = packetRoom + 128
+
+-- and the text of a record has no more bytes than that
 pub record Puts (answer : Paper) (packet text out : List ℕ) (at : ℕ) : Type 0 where
   pub is : answer ≡ putOf packet text out at
-  pub short : length packet ≤ 2048 → length text ≤ 33024
+  pub short : length packet ≤ longest → length text ≤ room
 
 abbrev pub putLeaves : List ℕ → List ℕ → List ℕ → ℕ → List ℕ
 putLeaves packet text out at = leaves (putOf packet text out at) out at text

@@ -1,6 +1,6 @@
 // The text of one record, written into a lent buffer: its place, what its packet is, and the options of a Neighbor Discovery message.
 ghost use mathlib.Core.Path.{_≡_};
-ghost use Prim.Native.Nat.{_+_, _*_, _≤_};
+ghost use Prim.Native.Nat.{_+_, _≤_};
 ghost use mathlib.Core.Bool.{cond};
 ghost use mathlib.Core.List.{[]};
 ghost use lib.ListN.{length, getD, drop};
@@ -8,9 +8,12 @@ ghost use Rattle.wire.specs.Wire.{word16At};
 ghost use Rattle.output.specs.Output.{writtenTold, Wrote};
 ghost use Rattle.ndp_options.specs.Walk.{walkFrom};
 ghost use Rattle.ndp_options.specs.declared.Edition.the-variants.{First};
+ghost use Rattle.capture.specs.Record.{longest};
 ghost use Rattle.dump_lines.specs.Line.{text};
 ghost use Rattle.message_table.specs.Table.{isNdp};
-ghost use Rattle.listing.specs.Packet.{walkText, packetText, recordText, Puts, putLeaves};
+ghost use Rattle.listing.specs.Packet.{walkText, packetText, recordText, walkRoom, optionsRoom, packetRoom, room, Puts, putLeaves};
+use capture::MAX_PACKET_LEN;
+use dump_lines::LONGEST;
 use dump_lines::Line;
 use icmpv6_payload_slice::PayloadRead;
 use ndp_options::Cursor;
@@ -19,8 +22,9 @@ use ndp_options::Step;
 use output::Written;
 use refusal::Refusal;
 
-// The longest text of a record, in bytes: three lines, and one for every eight bytes of options.
-pub const ROOM: usize = 33024;
+// The longest text of a record, in bytes: three lines, and those of the options. The line of an option has at most 31 bytes, the option at least eight: four
+// bytes of text for each byte behind the packet's head.
+pub const ROOM: usize = 3 * LONGEST + 4 * (MAX_PACKET_LEN - 8);
 
 // Writes the text of a record at a place of `out` and returns the place behind it. If it refuses (13, then 9) it writes nothing.
 pub fn put_record(
@@ -37,7 +41,7 @@ pub fn put_record(
     ensures lent { λ r. ⌜ now (out .exit) ≡ putLeaves (now (packet .entry)) (recordText number place «hop_limit» (now (source .entry)) (now (destination .entry)) (now (packet .entry))) (now (out .entry)) at ⌝ }
 {
     let len = packet.len();
-    if capture::MAX_PACKET_LEN < len {
+    if MAX_PACKET_LEN < len {
         return Written::Refused(Refusal::LongRecord { length: len });
     }
     if ROOM <= output::room(out, at) {
@@ -52,7 +56,7 @@ pub fn put_record(
             packet,
         ));
     }
-    let mut own = [0u8; 33024];
+    let mut own = [0u8; ROOM];
     let n = put_text(
         &mut own,
         0,
@@ -77,9 +81,9 @@ fn put_text(
     destination: &[u8; 16],
     packet: &[u8],
 ) -> usize
-    requires { ⌜ (at + 33024 ≤ length (now out)) × (length (now packet) ≤ 2048) ⌝ }
+    requires { ⌜ (at + room ≤ length (now out)) × (length (now packet) ≤ longest) ⌝ }
     ensures wrote { λ r. ⌜ Wrote (now (out .entry)) at (recordText number place «hop_limit» (now (source .entry)) (now (destination .entry)) (now (packet .entry))) (now (out .exit)) r ⌝ }
-    ensures short { λ r. ⌜ r ≤ at + 33024 ⌝ }
+    ensures short { λ r. ⌜ r ≤ at + room ⌝ }
 {
     let next = put_line(out, at, Line::Record { number, place });
     put_packet(out, next, hop_limit, source, destination, packet)
@@ -93,9 +97,9 @@ fn put_packet(
     destination: &[u8; 16],
     packet: &[u8],
 ) -> usize
-    requires { ⌜ (at + 32896 ≤ length (now out)) × (length (now packet) ≤ 2048) ⌝ }
+    requires { ⌜ (at + packetRoom ≤ length (now out)) × (length (now packet) ≤ longest) ⌝ }
     ensures wrote { λ r. ⌜ Wrote (now (out .entry)) at (packetText «hop_limit» (now (source .entry)) (now (destination .entry)) (now (packet .entry))) (now (out .exit)) r ⌝ }
-    ensures short { λ r. ⌜ r ≤ at + 32896 ⌝ }
+    ensures short { λ r. ⌜ r ≤ at + packetRoom ⌝ }
 {
     let judged = receive::judge(packet, hop_limit, source, destination, Edition::First);
     let opened = judged.opened;
@@ -120,7 +124,7 @@ fn put_packet(
 
 // The line of a packet's head, whose kind, verdict and reason are given.
 fn put_head(out: &mut [u8], at: usize, kind: u8, packet: &[u8], ok: bool, reason: u8) -> usize
-    requires { ⌜ (at + 128 ≤ length (now out)) × (8 ≤ length (now packet)) × (length (now packet) ≤ 2048) ⌝ }
+    requires { ⌜ (at + 128 ≤ length (now out)) × (8 ≤ length (now packet)) × (length (now packet) ≤ longest) ⌝ }
     ensures wrote { λ r. ⌜ Wrote (now (out .entry)) at (text (Line.Head kind (getD (now (packet .entry)) 1 0) (word16At (now (packet .entry)) 2) ok (length (now (packet .entry))) reason)) (now (out .exit)) r ⌝ }
     ensures short { λ r. ⌜ r ≤ at + 128 ⌝ }
 {
@@ -137,9 +141,9 @@ fn put_head(out: &mut [u8], at: usize, kind: u8, packet: &[u8], ok: bool, reason
 
 // The option lines of rs to redirect, the messages of Neighbor Discovery, from their place on.
 fn put_options(out: &mut [u8], at: usize, kind: u8, packet: &[u8], from: usize) -> usize
-    requires { ⌜ (at + 32768 ≤ length (now out)) × (8 ≤ from) × (from ≤ length (now packet)) × (length (now packet) ≤ 2048) ⌝ }
+    requires { ⌜ (at + optionsRoom ≤ length (now out)) × (8 ≤ from) × (from ≤ length (now packet)) × (length (now packet) ≤ longest) ⌝ }
     ensures wrote { λ r. ⌜ Wrote (now (out .entry)) at (cond (isNdp kind) (walkText 0 (walkFrom First from (drop from (now (packet .entry))))) []) (now (out .exit)) r ⌝ }
-    ensures short { λ r. ⌜ r ≤ at + 32768 ⌝ }
+    ensures short { λ r. ⌜ r ≤ at + optionsRoom ⌝ }
 {
     if message_table::is_ndp(kind) {
         return put_walk(out, at, &packet[from..], from);
@@ -149,9 +153,9 @@ fn put_options(out: &mut [u8], at: usize, kind: u8, packet: &[u8], from: usize) 
 
 // A line for each option, and the ending of the walk. The first byte of the options is at an offset of the packet.
 fn put_walk(out: &mut [u8], at: usize, options: &[u8], offset: usize) -> usize
-    requires { ⌜ (at + 128 + 16 * length (now options) ≤ length (now out)) × (offset + length (now options) ≤ 2048) ⌝ }
+    requires { ⌜ (at + walkRoom (length (now options)) ≤ length (now out)) × (offset + length (now options) ≤ longest) ⌝ }
     ensures wrote { λ r. ⌜ Wrote (now (out .entry)) at (walkText 0 (walkFrom First offset (now (options .entry)))) (now (out .exit)) r ⌝ }
-    ensures short { λ r. ⌜ r ≤ at + 128 + 16 * length (now (options .entry)) ⌝ }
+    ensures short { λ r. ⌜ r ≤ at + walkRoom (length (now (options .entry))) ⌝ }
 {
     let mut c = Cursor::new();
     let mut n: u64 = 0;

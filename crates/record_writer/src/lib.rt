@@ -1,9 +1,10 @@
-// One record of a capture, written (docs/RULES.md C7).
+// One record of a capture, written (docs/RULES.md C7, C9).
 ghost use mathlib.Core.Path.{_≡_};
 ghost use Rattle.output.specs.Output.{writtenTold, leaves};
-ghost use Rattle.capture.specs.Record.{recordBytes, writeRecordOf};
+ghost use Rattle.capture.specs.Record.{markOf, recordBytes, writeRecordOf};
 use capture::HEAD_LEN;
 use capture::MAX_PACKET_LEN;
+use capture::MAX_SHORT_LEN;
 use output::Written;
 use refusal::Refusal;
 
@@ -26,10 +27,20 @@ pub fn write_record(
     if out.len() < needed {
         return Written::Refused(Refusal::ShortOutput { needed });
     }
-    output::put(out, 0, b"I6");
+    output::put(out, 0, &mark_of(len));
     output::put(out, 2, &[hop_limit]);
     output::put(out, 3, source);
     output::put(out, 19, destination);
     output::put(out, 35, &wire::u16_to_be(len as u16));
     output::put(out, HEAD_LEN, packet)
+}
+
+// The mark of a packet's length.
+fn mark_of(len: usize) -> [u8; 2]
+    ensures { λ r. ⌜ r ≡ markOf len ⌝ }
+{
+    if MAX_SHORT_LEN < len {
+        return *b"I7";
+    }
+    *b"I6"
 }

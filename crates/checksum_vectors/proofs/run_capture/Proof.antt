@@ -4,7 +4,7 @@ use denote.Ref.{now}
 use Prim.Native.Nat.{ℕ, _+_, _*_, _-_, _≤_}
 use native.Mathlib.Omega.{arith}
 use lib.ListN.{length}
-use Rattle.capture.specs.Record.{placeIn}
+use Rattle.capture.specs.Record.{longest, placeIn}
 use Rattle.capture.specs.Capture.{FoundAt}
 use Rattle.capture.proofs.Calls.{found-at}
 use borrow.Author.Needs.{needs}
@@ -13,7 +13,7 @@ use Rattle.checksum_vectors.proofs.run_capture.Tie as tie
 
 abbrev Inv-loop : tie.InvT-loop
 Inv-loop records at₀ number₀ cleared₀ kept₀ survivors₀ at number cleared kept survivors =
-    (at ≤ length records) × (number ≤ at) × (cleared ≤ at) × (kept ≤ at) × (survivors ≤ 2048 * at)
+    (at ≤ length records) × (number ≤ at) × (cleared ≤ at) × (kept ≤ at) × (survivors ≤ longest * at)
 
 abbrev μ-loop : tie.MeasureT-loop
 μ-loop records at₀ number₀ cleared₀ kept₀ survivors₀ at number cleared kept survivors = length records - at

@@ -12,6 +12,7 @@ use Rattle.packet_length.specs.Length.{limit}
 use Rattle.output.specs.Output.{Wrote}
 use Rattle.output.proofs.Wrote.{_then_, nothing}
 use Rattle.dump_lines.specs.Text.{optLine, refusedAtLine}
+use Rattle.dump_lines.proofs.Short.{opt-short}
 use Rattle.ndp_walk.specs.Walk.{Item, shiftItem}
 use Rattle.ndp_walk.proofs.Steps.{Onward, Refusing, far-on, there}
 use Rattle.ndp_options.specs.Editions.{ruleBy}
@@ -25,12 +26,12 @@ use borrow.Author.Needs.{needs}
 use Rattle.listing.proofs.put_walk.Statement.{statement}
 use Rattle.listing.proofs.put_walk.Tie as tie
 
--- What is put so far, and what the walk from the cursor makes, are the text of the whole walk. A line takes at most 128 bytes, an option at least eight.
+-- What is put so far, and what the walk from the cursor makes, are the text of the whole walk. An option has at least eight bytes and its line at most 31.
 abbrev Inv-loop : tie.InvT-loop
 Inv-loop out₀ at options offset c₀ n₀ put₀ out c n put =
     (c .at ≤ length options)
     × (n ≤ c .at)
-    × (put ≤ at + 16 * c .at)
+    × (put ≤ at + 4 * c .at)
     × (length out ≡ length out₀)
     × ((done : List ℕ) × (Wrote out₀ at done out put × (walkText 0 (walkFrom First offset options) ≡ done ++ walkText n (walkFrom First (offset + c .at) (drop (c .at) options)))))
 
@@ -94,7 +95,10 @@ loop-again c =
     let i = itemTold (arm .option .given .0 .0) in
     let v = at .loop .inv in
     let place = arm .option .given .0 .0 .place in
-    (o .inside, omega (arith, v .1, o .on), omega (arith, v .2, l .put-line .ensures .1, o .behind, o .of .least), search needs, (v .4 .0 ++ optLine place (i .type) (i .len), (v .4 .1 .0 then l .put-line .ensures .0, v .4 .1 .1 ∙ further (a .offset) (v .4 .0) (at .loop .n) o)))
+    let near = at .before .before .before .before .pre .1 in
+    let byte = at .before .before .shared-slice-known .given (i .at) in
+    let few = opt-short place (i .type) (i .len) (omega (arith, o .there, v .0, near)) (omega (arith, o .of .type, byte)) (omega (arith, o .inside, o .behind, near)) in
+    (o .inside, omega (arith, v .1, o .on), omega (arith, v .2, l .put-line .ensures .0 .ends, few, o .behind, o .of .least), search needs, (v .4 .0 ++ optLine place (i .type) (i .len), (v .4 .1 .0 then l .put-line .ensures .0, v .4 .1 .1 ∙ further (a .offset) (v .4 .0) (at .loop .n) o)))
 
 enum-told : tie.Need-enum-told Inv-loop μ-loop
 enum-told c = search needs

@@ -10,8 +10,9 @@ use denote.Ref.{now}
 use Rattle.output.specs.Output.{over}
 use Rattle.output.proofs.Fitting.{fits, narrow, wrote}
 use Rattle.output.proofs.Wrote.{_then_}
-use Rattle.capture.specs.Record.{mark, recordBytes}
+use Rattle.capture.specs.Record.{longest, markOf, recordBytes}
 use Rattle.capture.proofs.Writing.{not-held, held}
+use Rattle.capture.proofs.Marks.{two-bytes}
 use Rattle.record_writer.proofs.Length.{length-bytes}
 use borrow.Author.Needs.{needs}
 use Rattle.record_writer.proofs.write_record.Statement.{statement}
@@ -28,6 +29,9 @@ returns-2 c =
     let i = c .before in
     let a = i .before .before .before .args in
     simp (held (now (a .packet)) (i .if1 .left), narrow (37 + length (now (a .packet))) (now (a .out)) 0 (omega (arith, c .if2 .taken))) (refl, refl)
+
+mark-of-requires : tie.Need-mark-of-requires
+mark-of-requires c κs = search needs
 
 slice-aggregate-put : tie.Need-slice-aggregate-put
 slice-aggregate-put c = search needs
@@ -75,26 +79,29 @@ returns-3 c =
     let s = d .before .before .before .before .before in
     let h = s .before .before .before .before .before in
     let m = h .before .before .before .before .before in
-    let k = m .before .before .before in
+    let b = m .before .before in
+    let k = b .before .before in
     let i = k .before in
     let a = i .before .before .before .args in
     let out = now (a .out) in
     let packet = now (a .packet) in
-    let few : length packet ≤ 2048 = i .if1 .left in
+    let few : length packet ≤ longest = i .if1 .left in
     let enough : 37 + length packet ≤ length out = k .if2 .left in
-    let s16 : length (now (a .source)) ≡ 16 = search needs in
-    let d16 : length (now (a .destination)) ≡ 16 = search needs in
+    let s16 : length (now (a .source)) ≡ 16 = omega (arith, s .before .put-arg6 .given) in
+    let d16 : length (now (a .destination)) ≡ 16 = omega (arith, d .before .put-arg8 .given) in
+    let b2 : length (b .mark-of .result) ≡ 2 = ap length (b .mark-of .ensures ∙ two-bytes (length packet)) in
     let u2 : length (u .u16-to-be .result) ≡ 2 = ap length (u .u16-to-be .ensures) in
     let w =
-    wrote out 0 mark (m .put .ensures .1) (omega arith) 2 refl
+    wrote out 0 (b .mark-of .result) (m .put .ensures .1) (omega arith) 2 (omega arith)
     then wrote _ 2 (a .hop-limit ∷ []) (h .put2 .ensures .1) (omega arith) 3 refl
     then wrote _ 3 (now (a .source)) (s .put3 .ensures .1) (omega arith) 19 (omega arith)
     then wrote _ 19 (now (a .destination)) (d .put4 .ensures .1) (omega arith) 35 (omega arith)
     then wrote _ 35 (u .u16-to-be .result) (e .put5 .ensures .1) (omega arith) 37 (omega arith)
     then wrote _ 37 packet (f .put6 .ensures .1) (omega arith) (37 + length packet) refl in
-    let size = ap (λ (l : List ℕ). over out 0 (mark ++ (a .hop-limit ∷ []) ++ now (a .source) ++ now (a .destination) ++ l ++ packet)) (u .u16-to-be .ensures ∙ length-bytes (length packet) few) in
+    let marked = ap (λ (l : List ℕ). over out 0 (l ++ (a .hop-limit ∷ []) ++ now (a .source) ++ now (a .destination) ++ u .u16-to-be .result ++ packet)) (b .mark-of .ensures) in
+    let size = ap (λ (l : List ℕ). over out 0 (markOf (length packet) ++ (a .hop-limit ∷ []) ++ now (a .source) ++ now (a .destination) ++ l ++ packet)) (u .u16-to-be .ensures ∙ length-bytes (length packet) few) in
     simp (held packet few, fits (37 + length packet) out 0 (omega arith), zero-add)
-    (f .put6 .ensures .0 ∙ fits (length packet) _ 37 (omega arith), w .holds ∙ size)
+    (f .put6 .ensures .0 ∙ fits (length packet) _ 37 (omega arith), w .holds ∙ marked ∙ size)
 
 pub write-record-spec : {M : Type 1} → statement M
 write-record-spec =
@@ -103,6 +110,7 @@ write-record-spec =
     returns
     add-needed
     returns-2
+    mark-of-requires
     slice-aggregate-put
     put-requires
     slice-aggregate-put-2

@@ -8,7 +8,7 @@ use lib.ListN.{length, drop}
 use Rattle.output.proofs.Fitting.{told, not-full}
 use Rattle.listing.specs.Packet.{recordText}
 use Rattle.capture.proofs.Writing.{held}
-use Rattle.capture.specs.Record.{hopLimit, source, destination, packet}
+use Rattle.capture.specs.Record.{longest, hopLimit, source, destination, packet}
 use Rattle.dump.proofs.Steps.{parts}
 use borrow.Author.Needs.{needs}
 use Rattle.dump.proofs.scan.list_record.Statement.{statement}
@@ -62,7 +62,7 @@ same c =
     rw (a .pre .1 .hop, d .address .ensures ∙ k .from, e .address2 .ensures ∙ k .to, c .part .ensures ∙ k .body)
 
 -- no longer than a record's packet
-few : (c : tie.After-part) → length (now (c .part .result)) ≤ 2048
+few : (c : tie.After-part) → length (now (c .part .result)) ≤ longest
 few c =
     let a = c .before .before .before .before .before .before in
     let k = parts (now (a .args .bytes)) (a .args .s .at) (a .args .place + a .args .s .at) (a .args .found) (a .pre .1) in
