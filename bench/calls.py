@@ -1,4 +1,4 @@
-"""calls.py PAGE: the two tables of what bench/calls measured, printed and written into PAGE between their marks. Run in target/bench_calls.
+"""calls.py PAGE: the three tables of what bench/calls measured, printed and written into PAGE between their marks. Run in target/bench_calls.
 
 The stack of a call is read from the code: what a function pushes and reserves, the part below its stack pointer that it uses (the red zone of the
 x86-64 ABI), and the deepest of what it calls. No call is indirect, and none comes back to itself but those of CYCLE, which is tested; what is read of
@@ -8,7 +8,7 @@ import sys
 from functools import lru_cache
 
 CALLS = ["decode", "verify", "receive", "step", "read_prefix", "read_route", "read_dns", "preference", "write", "write_clearing", "write_keeping", "chain",
-         "version_5"]
+         "index_build", "index_append", "index_first", "index_next", "version_5"]
 AIM_CODE, AIM_STACK = 16 * 1024, {c: 2048 if c == "chain" else 512 for c in CALLS}
 # the functions that come back to themselves, and how often each is entered at most: a packet and eight levels have nine messages, and the ninth quote is
 # refused (docs/RULES.md Q11)
@@ -43,6 +43,20 @@ columns += [(way, n) for way in ("write", "write clearing", "write keeping") for
 columns += [("chain", n) for n in CHAINS]
 rows = ["| | " + " | ".join(title(c, n) for c, n in columns) + " |", "|---|" + "---|" * len(columns)]
 rows += [f"| {who}{', second edition' if edition == '2' else ''} | " + " | ".join(cost(edition, who, c, n) for c, n in columns) + " |" for edition in "12" for who in sets]
+
+# ---- the index: a lookup of an option of 64 units and a walk to it, a build of a list and a walk to its end
+index_names = dict(l.strip().split(";") for l in open("index_names.txt"))
+index = {}
+for line in open("index_counts.txt"):
+    what, which, insns, _, _ = map(int, line.split())
+    index[index_names[str(what)], which] = insns
+placed = [103, 164]  # the 3rd and the 64th of the units, by their types
+listed = sorted(n for what, n in index if what == "build")
+index_rows = ["| | the 3rd of 64 options | the 64th | " + " | ".join(f"a list of {n}" for n in listed) + " |", "|---|" + "---|" * (2 + len(listed))]
+for what in ("first", "next", "walk to it", "build", "walk to END", "append of one"):
+    loop = what.startswith("walk")
+    cells = [index.get((what, n)) for n in placed + listed]
+    index_rows.append(f"| {what} | " + " | ".join("" if c is None else f"{c - index['nothing', n if n in listed else listed[-1]] + (0 if loop else 2):,}" for c, n in zip(cells, placed + listed)) + " |")
 
 # ---- code
 code, section = {}, None
@@ -123,7 +137,7 @@ notes = (f"Symbols asked of the outside (`nm -u`): {len(asks) or 'none'}. Reloca
          f"write to {max(seen)[0]:,}. Plain C, code and constants together: {plain}.")
 
 page = open(sys.argv[1]).read()
-for mark, table in (("instructions", rows), ("size", size_rows + ["", notes])):
+for mark, table in (("instructions", rows), ("index", index_rows), ("size", size_rows + ["", notes])):
     start, end = f"<!-- bench/calls writes {mark} from here -->\n", f"<!-- {mark} to here -->\n"
     head, rest = page.split(start)
     page = head + start + "\n" + "\n".join(table) + "\n\n" + end + rest.split(end)[1]

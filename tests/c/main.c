@@ -12,6 +12,7 @@ int main(void) {
     joined();
     damaged();
     quotes();
+    indexes();
     lengths();
     editions_compared();
     printf("%lu passed, %lu failed\n", passed, failed);

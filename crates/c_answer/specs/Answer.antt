@@ -62,9 +62,19 @@ SERVERS = 15
 abbrev pub PREFERENCE : ℕ
 PREFERENCE = 16
 
+-- an index; an option found in it, or none
+abbrev pub INDEXED : ℕ
+INDEXED = 17
+
+abbrev pub FOUND : ℕ
+FOUND = 18
+
+abbrev pub NONE : ℕ
+NONE = 19
+
 -- all of them
 abbrev pub answers : List ℕ
-answers = REFUSED ∷ KNOWN ∷ UNKNOWN ∷ VALID ∷ INVALID ∷ OPTION ∷ END ∷ STOPPED ∷ RECEIVED ∷ WRITTEN ∷ PREFIX ∷ CHAIN ∷ ROUTE ∷ IGNORED ∷ SERVERS ∷ PREFERENCE ∷ []
+answers = REFUSED ∷ KNOWN ∷ UNKNOWN ∷ VALID ∷ INVALID ∷ OPTION ∷ END ∷ STOPPED ∷ RECEIVED ∷ WRITTEN ∷ PREFIX ∷ CHAIN ∷ ROUTE ∷ IGNORED ∷ SERVERS ∷ PREFERENCE ∷ INDEXED ∷ FOUND ∷ NONE ∷ []
 
 -- each number of a list above the one before it, the first above n: then no two are alike, and none is n
 abbrev pub rising : ℕ → List ℕ → Bool

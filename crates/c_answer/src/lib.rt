@@ -32,3 +32,9 @@ pub const IGNORED: u32 = 14;
 pub const SERVERS: u32 = 15;
 
 pub const PREFERENCE: u32 = 16;
+
+pub const INDEXED: u32 = 17;
+
+pub const FOUND: u32 = 18;
+
+pub const NONE: u32 = 19;

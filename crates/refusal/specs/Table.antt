@@ -1,9 +1,9 @@
--- docs/RULES.md N1 to N18 and N22: the number of each refusal and the values that it carries, in this order.
+-- docs/RULES.md N1 to N18, N20, N22 and N23: the number of each refusal and the values that it carries, in this order.
 -- Assumes nothing.
 use Prim.Native.Nat.{ℕ}
 use mathlib.Core.List.{List, [], _∷_}
 use Rattle.refusal.specs.declared.Refusal.{Refusal}
-use Rattle.refusal.specs.declared.Refusal.the-variants.{ShortPacket, LongPacket, LongPayload, ShortFixedPart, UnexpectedSize, ZeroLength, UnexpectedEndOfSlice, UnexpectedHeader, ShortOutput, KnownPair, NotReceived, NoMark, LongRecord, CaptureEnds, ShortQuote, QuoteVersion, DeepQuote, LongRoutePrefix, FarOffset}
+use Rattle.refusal.specs.declared.Refusal.the-variants.{ShortPacket, LongPacket, LongPayload, ShortFixedPart, UnexpectedSize, ZeroLength, UnexpectedEndOfSlice, UnexpectedHeader, ShortOutput, KnownPair, NotReceived, NoMark, LongRecord, CaptureEnds, ShortQuote, QuoteVersion, DeepQuote, LongRoutePrefix, ManyOptions, FarOffset, OtherIndex}
 
 abbrev pub number : Refusal → ℕ
 number (ShortPacket a b) = 1
@@ -24,7 +24,9 @@ number (ShortQuote a) = 15
 number (QuoteVersion a) = 16
 number (DeepQuote a) = 17
 number (LongRoutePrefix a) = 18
+number ManyOptions = 20
 number FarOffset = 22
+number OtherIndex = 23
 
 abbrev pub values : Refusal → List ℕ
 values (ShortPacket a b) = a ∷ b ∷ []
@@ -45,4 +47,6 @@ values (ShortQuote a) = a ∷ []
 values (QuoteVersion a) = a ∷ []
 values (DeepQuote a) = a ∷ []
 values (LongRoutePrefix a) = a ∷ []
+values ManyOptions = []
 values FarOffset = []
+values OtherIndex = []
