@@ -99,5 +99,6 @@ void sums(void);    /* sums of several parts */
 void newer(void);   /* routes, servers and the preference, read by themselves */
 void joined(void);  /* option lists cut at every place */
 void damaged(void); /* 100,000 packets, random and damaged, beside plain.c */
+void splits(void);  /* plans: the worked cases of area Z, all small ones, and 100,000 by chance beside plain.c */
 void quotes(void);  /* packets quoted in packets: the worked cases of area Q, and 100,000 nests beside plain.c */
 #endif

@@ -12,6 +12,7 @@ int main(void) {
     joined();
     damaged();
     quotes();
+    splits();
     lengths();
     sums();
     editions_compared();

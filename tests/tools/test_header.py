@@ -9,8 +9,8 @@ import sys
 import tempfile
 
 root = os.path.dirname(os.path.dirname(os.path.dirname(os.path.abspath(__file__))))
-HEADER, PREFIX, DECODE, STEP, QUOTES, ANSWER, VERSION, SUMMED = "include/brothladder.h", *(
-    f"crates/c_{c}/src/lib.rt" for c in ("prefix", "decode", "step", "quotes", "answer", "version", "summed"))
+HEADER, PREFIX, DECODE, STEP, QUOTES, SPLIT, ANSWER, VERSION, SUMMED = "include/brothladder.h", *(
+    f"crates/c_{c}/src/lib.rt" for c in ("prefix", "decode", "step", "quotes", "split", "answer", "version", "summed"))
 EDITIONS = "crates/ndp_options/specs/Editions.antt"
 
 
@@ -60,11 +60,12 @@ def fields(a, b):
 
 
 lifetimes = {HEADER: exchanged("uint32_t valid_lifetime;", "uint32_t preferred_lifetime;"), PREFIX: exchanged("pub valid_lifetime: u32", "pub preferred_lifetime: u32")}
-places = {HEADER: exchanged("    size_t at;", "    size_t next;"), STEP: exchanged("pub at: usize", "pub next: usize")}
-place = {HEADER: exchanged("    size_t at;", "    size_t place; /* where the option begins in the packet: offset + at */"), STEP: exchanged("pub at: usize", "pub place: usize")}
+places = {HEADER: exchanged("    size_t at;    ", "    size_t next;"), STEP: exchanged("pub at: usize", "pub next: usize")}
+place = {HEADER: exchanged("    size_t at;    ", "    size_t place; /* where the option begins in the packet: offset + at */"), STEP: exchanged("pub at: usize", "pub place: usize")}
 levels = {HEADER: exchanged("    uint8_t next_header[8];", "    uint8_t level_kind[8];"), QUOTES: exchanged("pub next_header: [u8; 8]", "pub level_kind: [u8; 8]")}
 nine = {HEADER: instead("uint32_t quote[8];", "uint32_t quote[9];"), QUOTES: instead("pub quote: [u32; 8]", "pub quote: [u32; 9]")}
 wide = {HEADER: instead("uint16_t on_link;", "uint32_t on_link;"), PREFIX: instead("pub on_link: u16", "pub on_link: u32")}
+parts = {HEADER: exchanged("    size_t at; /* the options of", "    size_t length; /* 0 for"), SPLIT: exchanged("pub at: usize", "pub length: usize")}
 MISTAKES = [
     ("nothing", {}, []),
     ("two members exchanged in source and header", lifetimes, ["layout"]),
@@ -73,6 +74,9 @@ MISTAKES = [
     ("a member made wider in source and header", wide, ["layout"]),
     ("next header and kind of a level exchanged in source and header", levels, ["layout"]),
     ("a ninth quote in source and header", nine, ["layout"]),
+    ("place and length of a part exchanged in source and header", parts, ["layout"]),
+    ("a plan that is written told as read", {HEADER: instead("size_t limit, uint32_t *plan", "size_t limit, const uint32_t *plan")}, ["header"]),
+    ("a plan of bytes in a prototype", {HEADER: instead("brothladder_plan_message(const uint8_t *options, size_t options_length, size_t limit, const uint32_t *plan", "brothladder_plan_message(const uint8_t *options, size_t options_length, size_t limit, const uint8_t *plan")}, ["header"]),
     ("two members exchanged in the header", {HEADER: lifetimes[HEADER]}, ["header", "layout"]),
     ("two members exchanged in the source", {PREFIX: lifetimes[PREFIX]}, ["header"]),
     ("the indexes of M and O exchanged", {HEADER: fields("MANAGED", "OTHER")}, ["header"]),

@@ -66,9 +66,19 @@ PREFERENCE = 16
 abbrev pub SUM : ℕ
 SUM = 17
 
+-- a plan that is accepted, or a message of one; one that is not; a plan that was made
+abbrev pub ACCEPTED : ℕ
+ACCEPTED = 22
+
+abbrev pub «NOT_ACCEPTED» : ℕ
+«NOT_ACCEPTED» = 23
+
+abbrev pub PLANNED : ℕ
+PLANNED = 24
+
 -- all of them
 abbrev pub answers : List ℕ
-answers = REFUSED ∷ KNOWN ∷ UNKNOWN ∷ VALID ∷ INVALID ∷ OPTION ∷ END ∷ STOPPED ∷ RECEIVED ∷ WRITTEN ∷ PREFIX ∷ CHAIN ∷ ROUTE ∷ IGNORED ∷ SERVERS ∷ PREFERENCE ∷ SUM ∷ []
+answers = REFUSED ∷ KNOWN ∷ UNKNOWN ∷ VALID ∷ INVALID ∷ OPTION ∷ END ∷ STOPPED ∷ RECEIVED ∷ WRITTEN ∷ PREFIX ∷ CHAIN ∷ ROUTE ∷ IGNORED ∷ SERVERS ∷ PREFERENCE ∷ SUM ∷ ACCEPTED ∷ «NOT_ACCEPTED» ∷ PLANNED ∷ []
 
 -- each number of a list above the one before it, the first above n: then no two are alike, and none is n
 abbrev pub rising : ℕ → List ℕ → Bool

@@ -34,3 +34,9 @@ pub const SERVERS: u32 = 15;
 pub const PREFERENCE: u32 = 16;
 
 pub const SUM: u32 = 17;
+
+pub const ACCEPTED: u32 = 22;
+
+pub const NOT_ACCEPTED: u32 = 23;
+
+pub const PLANNED: u32 = 24;

@@ -10,7 +10,7 @@ use lib.ListN.{getD, length}
 use Rattle.paper.specs.Paper.{Paper}
 use Rattle.paper.proofs.Lossless.{lossless}
 use Rattle.refusal.specs.declared.Refusal.{Refusal}
-use Rattle.refusal.specs.declared.Refusal.the-variants.{ShortPacket, LongPacket, LongPayload, ShortFixedPart, UnexpectedSize, ZeroLength, UnexpectedEndOfSlice, UnexpectedHeader, ShortOutput, KnownPair, NotReceived, NoMark, LongRecord, CaptureEnds, ShortQuote, QuoteVersion, DeepQuote, LongRoutePrefix, FarOffset}
+use Rattle.refusal.specs.declared.Refusal.the-variants.{ShortPacket, LongPacket, LongPayload, ShortFixedPart, UnexpectedSize, ZeroLength, UnexpectedEndOfSlice, UnexpectedHeader, ShortOutput, KnownPair, NotReceived, NoMark, LongRecord, CaptureEnds, ShortQuote, QuoteVersion, DeepQuote, LongRoutePrefix, NoPlan, FarOffset}
 use Rattle.refusal.specs.Table.{values}
 use Rattle.refusal.specs.Paper.{refusal, slots}
 
@@ -34,7 +34,8 @@ refusalOf p =
     (cond (eqb (p .number) 16) (QuoteVersion (getD (p .values) 0 0))
     (cond (eqb (p .number) 17) (DeepQuote (getD (p .values) 0 0))
     (cond (eqb (p .number) 18) (LongRoutePrefix (getD (p .values) 0 0))
-    FarOffset))))))))))))))))))
+    (cond (eqb (p .number) 21) NoPlan
+    FarOffset)))))))))))))))))))
 
 pub refusal-back : (r : Refusal) → refusalOf (refusal r) ≡ r
 refusal-back (ShortPacket a b) = refl
@@ -55,6 +56,7 @@ refusal-back (ShortQuote a) = refl
 refusal-back (QuoteVersion a) = refl
 refusal-back (DeepQuote a) = refl
 refusal-back (LongRoutePrefix a) = refl
+refusal-back NoPlan = refl
 refusal-back FarOffset = refl
 
 -- no refusal has the number 0, which is that of an answer that refuses nothing
@@ -77,6 +79,7 @@ refusal-numbered (ShortQuote a) = refl
 refusal-numbered (QuoteVersion a) = refl
 refusal-numbered (DeepQuote a) = refl
 refusal-numbered (LongRoutePrefix a) = refl
+refusal-numbered NoPlan = refl
 refusal-numbered FarOffset = refl
 
 pub few : (r : Refusal) → length (values r) ≤ 5
@@ -98,6 +101,7 @@ few (ShortQuote a) = lit≤ tt
 few (QuoteVersion a) = lit≤ tt
 few (DeepQuote a) = lit≤ tt
 few (LongRoutePrefix a) = lit≤ tt
+few NoPlan = lit≤ tt
 few FarOffset = lit≤ tt
 
 pub slots-at : (l : List ℕ) (i : ℕ) → i < 5 → getD (slots l) i 0 ≡ getD l i 0

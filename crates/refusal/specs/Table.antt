@@ -1,9 +1,9 @@
--- docs/RULES.md N1 to N18 and N22: the number of each refusal and the values that it carries, in this order.
+-- docs/RULES.md N1 to N18, N21 and N22: the number of each refusal and the values that it carries, in this order.
 -- Assumes nothing.
 use Prim.Native.Nat.{ℕ}
 use mathlib.Core.List.{List, [], _∷_}
 use Rattle.refusal.specs.declared.Refusal.{Refusal}
-use Rattle.refusal.specs.declared.Refusal.the-variants.{ShortPacket, LongPacket, LongPayload, ShortFixedPart, UnexpectedSize, ZeroLength, UnexpectedEndOfSlice, UnexpectedHeader, ShortOutput, KnownPair, NotReceived, NoMark, LongRecord, CaptureEnds, ShortQuote, QuoteVersion, DeepQuote, LongRoutePrefix, FarOffset}
+use Rattle.refusal.specs.declared.Refusal.the-variants.{ShortPacket, LongPacket, LongPayload, ShortFixedPart, UnexpectedSize, ZeroLength, UnexpectedEndOfSlice, UnexpectedHeader, ShortOutput, KnownPair, NotReceived, NoMark, LongRecord, CaptureEnds, ShortQuote, QuoteVersion, DeepQuote, LongRoutePrefix, NoPlan, FarOffset}
 
 abbrev pub number : Refusal → ℕ
 number (ShortPacket a b) = 1
@@ -24,6 +24,7 @@ number (ShortQuote a) = 15
 number (QuoteVersion a) = 16
 number (DeepQuote a) = 17
 number (LongRoutePrefix a) = 18
+number NoPlan = 21
 number FarOffset = 22
 
 abbrev pub values : Refusal → List ℕ
@@ -45,4 +46,5 @@ values (ShortQuote a) = a ∷ []
 values (QuoteVersion a) = a ∷ []
 values (DeepQuote a) = a ∷ []
 values (LongRoutePrefix a) = a ∷ []
+values NoPlan = []
 values FarOffset = []

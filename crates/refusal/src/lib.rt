@@ -1,4 +1,4 @@
-// The refusals (docs/RULES.md N1 to N18 and N22), which every answer of the library shares.
+// The refusals (docs/RULES.md N1 to N18, N21 and N22), which every answer of the library shares.
 ghost use mathlib.Core.Path.{_≡_};
 ghost use lib.ListN.{getD, length};
 ghost use Rattle.refusal.specs.Table.{number, values};
@@ -10,7 +10,7 @@ pub struct NdpOptionType(pub u8);
 // The length field of an option, in units of eight octets: never a number of bytes.
 pub struct LengthUnits(pub u8);
 
-// The variants stand in the order of the table: 1 to 18, then 22. A place is that in the whole packet.
+// The variants stand in the order of the table: 1 to 18, then 21 and 22. A place is that in the whole packet.
 pub enum Refusal {
     ShortPacket {
         least: usize,
@@ -82,6 +82,7 @@ pub enum Refusal {
     LongRoutePrefix {
         place: usize,
     },
+    NoPlan,
     FarOffset,
 }
 
@@ -208,6 +209,11 @@ impl Refusal {
                 number: 18,
                 count: 1,
                 values: [place as u64, 0, 0, 0, 0],
+            },
+            Refusal::NoPlan => Numbers {
+                number: 21,
+                count: 0,
+                values: [0, 0, 0, 0, 0],
             },
             Refusal::FarOffset => Numbers {
                 number: 22,

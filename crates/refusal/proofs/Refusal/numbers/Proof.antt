@@ -91,6 +91,9 @@ enum-known-self-18 c = search needs
 enum-told : tie.Need-enum-told
 enum-told c = search needs
 
+enum-told-2 : tie.Need-enum-told-2
+enum-told-2 c = search needs
+
 returns : tie.Need-returns
 returns c = rw (c .before .self .given .1)
 
@@ -148,6 +151,9 @@ returns-18 c = rw (c .before .self18 .given .1)
 returns-19 : tie.Need-returns-19
 returns-19 c = rw (c .enum-told .given .1)
 
+returns-20 : tie.Need-returns-20
+returns-20 c = rw (c .enum-told2 .given .1)
+
 pub numbers-spec : {M : Type 1} → statement M
 numbers-spec =
     tie.close
@@ -181,6 +187,7 @@ numbers-spec =
     enum-known-self-17
     enum-known-self-18
     enum-told
+    enum-told-2
     returns
     returns-2
     returns-3
@@ -199,4 +206,5 @@ numbers-spec =
     returns-16
     returns-17
     returns-18
-    returns-19)
+    returns-19
+    returns-20)
