@@ -71,14 +71,17 @@ def receive(hops, source, destination, packet):
     return 0
 
 
+def word_of(packet):
+    return WORDS[packet[0]] if packet[0] in WORDS and packet[1] < CODES.get(packet[0], 1) else "unknown"
+
+
 def packet_lines(hops, source, destination, packet):
     if len(packet) < 8:
         return ["refused 1"]
-    known = packet[1] < CODES.get(packet[0], 1) and packet[0] in WORDS
-    word = WORDS[packet[0]] if known else "unknown"
+    word = word_of(packet)
     good = "ok" if valid(source, destination, packet) else "bad"
     lines = [f"{word} code {packet[1]} sum {packet[2:4].hex()} {good} len {len(packet)} recv {receive(hops, source, destination, packet)}"]
-    if known and packet[0] in FIXED:
+    if word != "unknown" and packet[0] in FIXED:
         if len(packet) < 8 + FIXED[packet[0]]:
             return lines + ["refused 4"]
         options, refused = walk(packet)
@@ -87,14 +90,21 @@ def packet_lines(hops, source, destination, packet):
     return lines
 
 
+def record_at(rest):
+    """Why what is left of a capture does not begin with a record, 12, 13 or 14; or 0, and the packet's length."""
+    if len(rest) < 37:
+        return 12 if len(rest) >= 2 and rest[:2] not in LENGTHS else 14, 0
+    if rest[:2] not in LENGTHS:
+        return 12, 0
+    length = int.from_bytes(rest[35:37], "big")
+    return 13 if length not in LENGTHS[rest[:2]] else 14 if len(rest) < 37 + length else 0, length
+
+
 def listing(capture):
     lines, at, n = ["icmp6 1"], 0, 0
     while at < len(capture):
         rest = capture[at:]
-        stop = 14 if len(rest) < 2 else 12 if rest[:2] not in LENGTHS else 14 if len(rest) < 37 else 0
-        if not stop:
-            length = int.from_bytes(rest[35:37], "big")
-            stop = 13 if length not in LENGTHS[rest[:2]] else 14 if len(rest) < 37 + length else 0
+        stop, length = record_at(rest)
         if stop:
             return "\n".join(lines + [f"stopped {stop} at {at}"]) + "\n"
         n += 1

@@ -68,6 +68,25 @@ pub fn put_line(out: &mut [u8], at: usize, line: Line) -> Written
     output::put(out, at, &own[..n])
 }
 
+// The pieces that lines of other kinds are made of too: a number in decimal, and the word for a kind. They refuse as `put_line` does.
+pub fn put_number(out: &mut [u8], at: usize, n: u64) -> Written
+    ensures answers { λ r. ⌜ (writtenTold r ≡ roomFor (length (decimal n)) (now (out .entry)) at) × (length (decimal n) ≤ 20) ⌝ }
+    ensures lent { λ r. ⌜ now (out .exit) ≡ leaves (roomFor (length (decimal n)) (now (out .entry)) at) (now (out .entry)) at (decimal n) ⌝ }
+{
+    let mut own = [0u8; 20];
+    let digits = put_decimal(&mut own, 0, n);
+    output::put(out, at, &own[..digits])
+}
+
+pub fn put_kind(out: &mut [u8], at: usize, kind: u8) -> Written
+    ensures answers { λ r. ⌜ (writtenTold r ≡ roomFor (length (wordFor kind)) (now (out .entry)) at) × (length (wordFor kind) ≤ 8) ⌝ }
+    ensures lent { λ r. ⌜ now (out .exit) ≡ leaves (roomFor (length (wordFor kind)) (now (out .entry)) at) (now (out .entry)) at (wordFor kind) ⌝ }
+{
+    let mut own = [0u8; 8];
+    let word = put_word(&mut own, 0, kind);
+    output::put(out, at, &own[..word])
+}
+
 // Each of the following writes its text at a place of `out` and returns the place behind it.
 fn put_text(out: &mut [u8], at: usize, line: Line) -> usize
     requires { ⌜ at + 128 ≤ length (now out) ⌝ }

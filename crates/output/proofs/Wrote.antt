@@ -14,7 +14,8 @@ use borrow.Author.Tests.{leb-true, leb-false}
 use Rattle.output.specs.Output.{over, Wrote}
 
 module _ (out : List ℕ) (at : ℕ) (a : List ℕ) where
-  front : take (at + length a) (over out at a) ≡ take at out ++ a
+  -- up to what was put stands what stood before it, and then it
+  pub front : take (at + length a) (over out at a) ≡ take at out ++ a
   unfolding over
   front = by (leb at (length out)) refl
     where

@@ -1,6 +1,6 @@
 -- What is answered of a buffer that is lent for output, and what it then holds (docs/RULES.md N9, T6, G4).
 -- Assumes nothing.
-use Prim.Native.Nat.{ℕ, _+_, _-_}
+use Prim.Native.Nat.{ℕ, _+_, _-_, _*_}
 use mathlib.Core.Bool.{cond}
 use mathlib.Core.Path.{_≡_}
 use mathlib.Core.List.{List, [], _∷_, _++_}
@@ -15,11 +15,19 @@ abbrev pub writtenTold : Written → Paper
 writtenTold (To n) = gives (n ∷ [])
 writtenTold (Refused why) = refusal why
 
--- refusal 9 with n if fewer than n bytes are left from the place on, else the place behind n bytes
-unfoldable pub roomFor : ℕ → List ℕ → ℕ → Paper
-roomFor n out at = cond (ltb (length out - at) n) (refuses 9 (n ∷ [])) (gives ((at + n) ∷ []))
+-- of n elements that are so many bytes: refusal 9 with the bytes if fewer than n are left from the place on, else the place behind n
+unfoldable pub roomIn : ℕ → ℕ → List ℕ → ℕ → Paper
+roomIn needed n out at = cond (ltb (length out - at) n) (refuses 9 (needed ∷ [])) (gives ((at + n) ∷ []))
 
--- bytes over those from a place on: what stands before them and behind them stays
+-- of n bytes
+abbrev pub roomFor : ℕ → List ℕ → ℕ → Paper
+roomFor n out at = roomIn n n out at
+
+-- of n numbers of four bytes each
+abbrev pub numbersFor : ℕ → List ℕ → ℕ → Paper
+numbersFor n out at = roomIn (n * 4) n out at
+
+-- bytes, or numbers, over those from a place on: what stands before them and behind them stays
 unfoldable pub over : List ℕ → ℕ → List ℕ → List ℕ
 over out at bytes = take at out ++ bytes ++ drop (at + length bytes) out
 

@@ -24,7 +24,7 @@ use Rattle.ndp_options.specs.Editions.{ruleBy}
 use Rattle.ndp_options.specs.declared.Edition.{Edition}
 use Rattle.ndp_options.specs.declared.Edition.the-variants.{First, Second}
 use Rattle.ndp_option_list.specs.Whole.{wholeOf}
-use Rattle.output.specs.Output.{roomFor, over}
+use Rattle.output.specs.Output.{roomIn, over}
 use Rattle.writer.specs.Write.{sendableOf, writeOf, outputBy}
 
 pub record Case : Type 0 where
@@ -82,5 +82,5 @@ cases =
     ∷ []
 
 pub right : map (λ (k : Case). k .got) cases ≡ map (λ (k : Case). k .wanted) cases
-unfolding sendableOf payloadOf roomFor over known fixedLen sumOf checksumOf _⊕_ judge ruleBy rule second walkOn walkFrom wholeOf
+unfolding sendableOf payloadOf roomIn over known fixedLen sumOf checksumOf _⊕_ judge ruleBy rule second walkOn walkFrom wholeOf
 right = refl

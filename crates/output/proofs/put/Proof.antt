@@ -1,20 +1,18 @@
 -- `put` meets its contract: after i turns the first i bytes are pasted, and the buffer has its length.
 -- Assumes nothing.
-use Prim.Native.Nat.{ℕ, _≤_, _-_}
-use mathlib.Core.Path.{_≡_, refl, _∙_, ap}
+use Prim.Native.Nat.{_-_}
+use mathlib.Core.Path.{refl}
 use native.Mathlib.Omega.{arith}
-use native.Mathlib.Numerals.{add-one}
-use lib.ListN.{length, length-set}
-use lib.Seq.{paste, paste-zero, paste-suc, take-length}
+use lib.ListN.{length}
 use denote.Ref.{now}
 use borrow.Author.Needs.{needs}
-use Rattle.output.specs.Output.{over}
 use Rattle.output.proofs.Fitting.{fits, narrow}
+use Rattle.output.proofs.Pasted.{Pasted, none-yet, one-more, all-put}
 use Rattle.output.proofs.put.Statement.{statement}
 use Rattle.output.proofs.put.Tie as tie
 
 abbrev Inv-loop : tie.InvT-loop
-Inv-loop out₀ at bytes needed i₀ out i = (i ≤ length bytes) × (length out ≡ length out₀) × (out ≡ paste out₀ at bytes i)
+Inv-loop out₀ at bytes needed i₀ out i = Pasted out₀ at bytes out i
 
 abbrev μ-loop : tie.MeasureT-loop
 μ-loop out₀ at bytes needed i₀ out i = length bytes - i
@@ -34,7 +32,7 @@ returns c =
 loop-holds : tie.Need-loop-holds Inv-loop μ-loop
 loop-holds c =
     let a = c .before .before .before .before .before .args in
-    (omega arith, refl, paste-zero (now (a .out)) (a .at) (now (a .bytes)))
+    none-yet (now (a .out)) (a .at) (now (a .bytes))
 
 shared-slice-read-out : tie.Need-shared-slice-read-out Inv-loop μ-loop
 shared-slice-read-out c = omega arith
@@ -52,30 +50,21 @@ loop-less : tie.Need-loop-less Inv-loop μ-loop
 loop-less c = omega arith
 
 loop-again : tie.Need-loop-again Inv-loop μ-loop
-loop-again c =
-    let m = c .before .before in
-    let a = m .before .before .before .before .before .before .args in (
-      omega arith,
-      simp length-set (m .loop .inv .1),
-      rw (m .loop .inv .2, add-one (m .loop .i))
-          (paste-suc (now (a .out)) (a .at) (now (a .bytes)) (m .loop .i) 0 (omega arith) (omega arith)),
-    )
+loop-again c = one-more (c .before .before .loop .inv) (omega arith) (omega arith)
 
 add-t6 : tie.Need-add-t6 Inv-loop μ-loop
 add-t6 c = omega arith
 
 same-length-2 : tie.Need-same-length-2 Inv-loop μ-loop
-same-length-2 c = c .before .loop .inv .1
+same-length-2 c = c .before .loop .inv .long
 
 returns-2 : tie.Need-returns-2 Inv-loop μ-loop
-unfolding over
 returns-2 c =
     let m = c .before in
     let i = m .before in
     let a = i .before .before .before .before .before .args in
-    let end : m .loop .i ≡ length (now (a .bytes)) = omega arith in
     simp (fits (length (now (a .bytes))) (now (a .out)) (a .at) (omega (arith, i .if1 .left, i .before .room .ensures)))
-    (refl, m .loop .inv .2 ∙ ap (λ (n : ℕ). paste (now (a .out)) (a .at) (now (a .bytes)) n) end ∙ rw take-length refl)
+    (refl, all-put (m .loop .inv) (omega arith))
 
 pub put-spec : {M : Type 1} → statement M
 put-spec =

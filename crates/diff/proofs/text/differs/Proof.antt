@@ -1,0 +1,19 @@
+-- `diff::text::differs` meets its contract: by its test.
+-- Assumes nothing.
+use borrow.Author.Tests.{eq-eqb, ne-eqb}
+use borrow.Author.Needs.{needs}
+use Rattle.diff.proofs.text.differs.Statement.{statement}
+use Rattle.diff.proofs.text.differs.Tie as tie
+
+returns : tie.Need-returns
+returns c = simp (eq-eqb _ _ (c .if1 .taken))
+
+returns-2 : tie.Need-returns-2
+returns-2 c = simp (ne-eqb _ _ (c .if1 .left))
+
+pub differs-spec : {M : Type 1} → statement M
+differs-spec =
+    tie.close
+    (tie.spec
+    returns
+    returns-2)

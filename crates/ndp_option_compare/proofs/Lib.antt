@@ -1,0 +1,10 @@
+pub mod Alike
+pub mod Entries
+pub mod Options
+pub mod Whole
+pub mod Common
+pub mod Turning
+pub mod Theorems
+pub mod Examples
+pub mod Told
+pub mod Unique

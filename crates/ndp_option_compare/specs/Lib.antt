@@ -1,0 +1,4 @@
+pub mod Entry
+pub mod Compare
+pub mod Told
+pub mod Turn
