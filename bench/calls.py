@@ -8,7 +8,8 @@ import sys
 from functools import lru_cache
 
 CALLS = ["decode", "verify", "receive", "step", "read_prefix", "read_route", "read_dns", "preference", "write", "write_clearing", "write_keeping", "chain",
-         "sum", "sum_pseudo", "sum_push", "sum_join", "verify_by_fours", "updated_checksum", "change_word", "version_5"]
+         "sum", "sum_pseudo", "sum_push", "sum_join", "verify_by_fours", "updated_checksum", "change_word",
+         "index_build", "index_append", "index_first", "index_next", "version_5"]
 AIM_CODE, AIM_STACK = 16 * 1024, {c: 2048 if c == "chain" else 512 for c in CALLS}
 # the functions that come back to themselves, and how often each is entered at most: a packet and eight levels have nine messages, and the ninth quote is
 # refused (docs/RULES.md Q11)
@@ -54,6 +55,20 @@ sum_rows = ["| | " + " | ".join(kinds_of_sums) + " |", "|---|" + "---|" * len(ki
 # of the last one the caller's own instructions are counted too
 sum_rows += [f"| {who} | " + " | ".join(f"{counted[who, c] - counted['nothing', c] + (0 if c == kinds_of_sums[-1] else 2):,}" for c in kinds_of_sums) + " |"
              for who in dict.fromkeys(w for w, _ in measured.values()) if who != "nothing"]
+
+# ---- the index: a lookup of an option of 64 units and a walk to it, a build of a list and a walk to its end
+index_names = dict(l.strip().split(";") for l in open("index_names.txt"))
+index = {}
+for line in open("index_counts.txt"):
+    what, which, insns, _, _ = map(int, line.split())
+    index[index_names[str(what)], which] = insns
+placed = [103, 164]  # the 3rd and the 64th of the units, by their types
+listed = sorted(n for what, n in index if what == "build")
+index_rows = ["| | the 3rd of 64 options | the 64th | " + " | ".join(f"a list of {n}" for n in listed) + " |", "|---|" + "---|" * (2 + len(listed))]
+for what in ("first", "next", "walk to it", "build", "walk to END", "append of one"):
+    loop = what.startswith("walk")
+    cells = [index.get((what, n)) for n in placed + listed]
+    index_rows.append(f"| {what} | " + " | ".join("" if c is None else f"{c - index['nothing', n if n in listed else listed[-1]] + (0 if loop else 2):,}" for c, n in zip(cells, placed + listed)) + " |")
 
 # ---- code
 code, section = {}, None
@@ -134,7 +149,7 @@ notes = (f"Symbols asked of the outside (`nm -u`): {len(asks) or 'none'}. Reloca
          f"write to {max(seen)[0]:,}. Plain C, code and constants together: {plain}.")
 
 page = open(sys.argv[1]).read()
-for mark, table in (("instructions", rows), ("sums", sum_rows), ("size", size_rows + ["", notes])):
+for mark, table in (("instructions", rows), ("sums", sum_rows), ("index", index_rows), ("size", size_rows + ["", notes])):
     start, end = f"<!-- bench/calls writes {mark} from here -->\n", f"<!-- {mark} to here -->\n"
     head, rest = page.split(start)
     page = head + start + "\n" + "\n".join(table) + "\n\n" + end + rest.split(end)[1]

@@ -51,18 +51,18 @@
  * all of them anew once. Each later change of a struct, an argument or a meaning takes the next number. A call that is added takes none:
  * whoever makes it does not link with a library that lacks it.
  *
- * What you must ensure: each pointer can be read (`out`: written; the packet of brothladder_change_word: both) for the length that
- * goes with it, and an address for 16 bytes. A
- * pointer may be NULL only if its length is 0. Nobody else writes to a buffer during the call. `out` does not overlap another
- * buffer of the same call.
+ * What you must ensure: each pointer can be read (`out`: written; the packet of brothladder_change_word, and `list` and `index` of
+ * brothladder_index_build and .._append: both) for the length that goes with it, which counts numbers where it points to uint32_t, and an
+ * address for 16 bytes. A pointer may be NULL only if its length is 0. Nobody else writes to a buffer during the call. A buffer that is
+ * written does not overlap another buffer of the same call.
  *
  * What a call uses: less than 512 bytes of stack (brothladder_chain: less than 2,048), the xmm registers, and the red zone below the
  * stack pointer (x86-64 System V ABI). If your kernel runs without SSE or a red zone, call these functions only where both are
  * available (on Linux between kernel_fpu_begin and kernel_fpu_end).
  *
- * What a call changes: nothing, except the packet's own bytes in `out` when a brothladder_write.. returns BROTHLADDER_WRITTEN, and a
- * word and the checksum field of `packet` when brothladder_change_word returns BROTHLADDER_UPDATED. A call that refuses changes no
- * buffer.
+ * What a call changes: nothing, except the packet's own bytes in `out` when a brothladder_write.. returns BROTHLADDER_WRITTEN, a word
+ * and the checksum field of `packet` when brothladder_change_word returns BROTHLADDER_UPDATED, and the new entries in `index` and the new
+ * bytes in `list` when brothladder_index_build or .._append returns BROTHLADDER_INDEXED. A call that refuses changes no buffer.
  */
 #ifndef BROTHLADDER_H
 #define BROTHLADDER_H
@@ -109,6 +109,9 @@ extern "C" {
 #define BROTHLADDER_PREFERENCE 16u /* preference: how far the router is preferred */
 #define BROTHLADDER_SUM 17u     /* sum, sum_pseudo, sum_push, sum_join: a sum of bytes */
 #define BROTHLADDER_UPDATED 18u /* updated_checksum, change_word: the checksum field after a word changed */
+#define BROTHLADDER_INDEXED 19u /* index build, append: the index is that of the list */
+#define BROTHLADDER_FOUND 20u   /* index first, next: the place of an option */
+#define BROTHLADDER_NONE 21u    /* index first, next: no entry is such a one */
 
 /* Values of `refusal`, which says why a call refused; 0 if it did not. `value` has the numbers that go with it, 0 past the last. The
  * last number of 5 to 8 and the one of 18 is the place of the refused option in the packet: `offset` + `at` of a step, `offset` of the
@@ -122,7 +125,7 @@ extern "C" {
 #define BROTHLADDER_REFUSAL_ZERO_LENGTH 6u            /* option type    place                                                 */
 #define BROTHLADDER_REFUSAL_UNEXPECTED_END_OF_SLICE 7u /* option type   expected       actual bytes    place                  */
 #define BROTHLADDER_REFUSAL_UNEXPECTED_HEADER 8u      /* expected type  actual type    expected units  actual units  place    */
-#define BROTHLADDER_REFUSAL_SHORT_OUTPUT 9u           /* bytes that `out` must have                                           */
+#define BROTHLADDER_REFUSAL_SHORT_OUTPUT 9u           /* bytes that `out`, `list` or `index` must have                        */
 #define BROTHLADDER_REFUSAL_KNOWN_PAIR 10u            /* type           code           (no call here returns it)              */
 #define BROTHLADDER_REFUSAL_NOT_RECEIVED 11u          /* BROTHLADDER_REASON_..                                                */
 #define BROTHLADDER_REFUSAL_NO_MARK 12u               /* place          (12 to 14: the dump program only)                     */
@@ -133,7 +136,9 @@ extern "C" {
 #define BROTHLADDER_REFUSAL_DEEP_QUOTE 17u            /* place          a ninth quote                                         */
 #define BROTHLADDER_REFUSAL_LONG_ROUTE_PREFIX 18u     /* place          (second edition only) a prefix length above 128       */
 #define BROTHLADDER_REFUSAL_NO_WORD 19u               /* place          (updates only) odd, or 2, or not both bytes are there */
+#define BROTHLADDER_REFUSAL_MANY_OPTIONS 20u          /* (none) an index has 64 entries at most                               */
 #define BROTHLADDER_REFUSAL_FAR_OFFSET 22u            /* (none) offset + length is above 4294967295: no packet is that long   */
+#define BROTHLADDER_REFUSAL_OTHER_INDEX 23u           /* (none) the index is not the one that the list builds                 */
 
 /* value[0] of refusal 11: the first test of the receive check, in this order, that the packet failed. */
 #define BROTHLADDER_REASON_HOP_LIMIT 1u     /* the hop limit is not 255 */
@@ -297,6 +302,21 @@ struct brothladder_updated {
     uint32_t refusal;
     uint64_t value[5];
     uint64_t field; /* the new checksum field, bytes 2 and 3 as one number, high byte first */
+};
+
+struct brothladder_indexed {
+    uint32_t answer; /* INDEXED or REFUSED */
+    uint32_t refusal;
+    uint64_t value[5];
+    size_t length;  /* the list has so many bytes: what the next append takes as `used` */
+    size_t entries; /* and its index so many entries: index[2 * i] is the type of option i, index[2 * i + 1] its place in the list */
+};
+
+struct brothladder_found {
+    uint32_t answer; /* FOUND or NONE. A lookup refuses nothing: `refusal` and `value` are 0 */
+    uint32_t refusal;
+    uint64_t value[5];
+    size_t at; /* where the option begins, counted from the list's first byte: what brothladder_step takes as `at` */
 };
 
 /* Decodes the head of a packet. KNOWN: type, code, checksum field and the fields of the type; no field holds reserved bits. UNKNOWN: the
@@ -466,6 +486,53 @@ struct brothladder_summed brothladder_sum_push(struct brothladder_summed before,
 /* The sum of the bytes that `first` is the sum of, and those of `second` behind them: for buffers that were summed apart. */
 BROTHLADDER_ANSWER
 struct brothladder_summed brothladder_sum_join(struct brothladder_summed first, struct brothladder_summed second);
+
+/* Builds the index of an option list at the start of `index`: two numbers for each option, its type and its place in the list, in list
+ * order. Who looks up several options of a list walks it once, here, and then asks the index:
+ *
+ *     uint32_t index[128];                                    // 64 entries are the most: two numbers each
+ *     struct brothladder_indexed x = brothladder_index_build(options, r.options_length, index, 128, edition);
+ *     if (x.answer != BROTHLADDER_INDEXED)                    // of a received packet: more than 64 options
+ *         return step_through();
+ *
+ *     struct brothladder_found f = brothladder_index_first(index, 128, x.entries, BROTHLADDER_KIND_MTU);
+ *     if (f.answer == BROTHLADDER_FOUND)
+ *         set_mtu(options + f.at);                            // the eight bytes of the option are there
+ *
+ *     f = brothladder_index_first(index, 128, x.entries, BROTHLADDER_KIND_PREFIX_INFORMATION);
+ *     while (f.answer == BROTHLADDER_FOUND) {                 // each prefix, in list order
+ *         struct brothladder_stepped s = brothladder_step(options, r.options_length, r.options_at, f.at, edition);
+ *         add_prefix(brothladder_read_prefix(options + s.at, s.length, s.place));
+ *         f = brothladder_index_next(index, 128, x.entries, BROTHLADDER_KIND_PREFIX_INFORMATION, f.at);
+ *     }
+ *
+ * `length` of the answer is options_length, `entries` the number of options. Numbers behind the entries stay as they were.
+ * Refusals: those of the steps over the list at offset 0 (22, 5, 6, 7, and 18 in the second edition); then 20; then 9 with 8 bytes for
+ * each option. */
+BROTHLADDER_ANSWER
+struct brothladder_indexed brothladder_index_build(const uint8_t *options, size_t options_length, uint32_t *index, size_t index_length,
+                                                   uint32_t edition);
+
+/* Puts option bytes behind a list's, and their entries behind its index's; or neither. The list is the first `used` bytes of `list`, its
+ * index the first `entries` entries of `index`: pass what the build or the append before answered as `length` and `entries`, and the same
+ * edition. What is then there is what a build of the whole list would leave.
+ * Refusals, in this order: those of the steps over the list; 23 if the index is not the one that the list builds, or there is no such
+ * list or index in the buffers; those of the steps over `more`, with the places that its options would have in the list; 20; 9 with the
+ * bytes of the whole list; 9 with 8 bytes for each entry. No bytes in `more` are appended without a change. */
+BROTHLADDER_ANSWER
+struct brothladder_indexed brothladder_index_append(uint8_t *list, size_t list_length, size_t used, uint32_t *index,
+                                                    size_t index_length, size_t entries, const uint8_t *more, size_t more_length,
+                                                    uint32_t edition);
+
+/* Looks up an option of a type in the first `entries` entries of an index (in all that it has, if it has fewer), without a look at the
+ * list: the first, or the first that begins behind the place `after`. Ask for the next with the place of the last answer, until NONE, and
+ * you got every option of that type once, in list order. An index is answered as it stands: only one that was built from a list and
+ * grown by appends alone says anything about it. */
+BROTHLADDER_ANSWER
+struct brothladder_found brothladder_index_first(const uint32_t *index, size_t index_length, size_t entries, uint8_t type);
+
+BROTHLADDER_ANSWER
+struct brothladder_found brothladder_index_next(const uint32_t *index, size_t index_length, size_t entries, uint8_t type, size_t after);
 
 /* Returns BROTHLADDER_VERSION. You need not call it: it is here to be referred to. `retain` keeps the reference where the linker drops
  * what nobody uses. */

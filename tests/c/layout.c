@@ -83,6 +83,15 @@ AT(summed, sum, 4, 2);
 AT(summed, odd, 6, 2);
 ENDS(summed, 8);
 
+BEGINS(indexed);
+AT(indexed, length, 48, 8);
+AT(indexed, entries, 56, 8);
+ENDS(indexed, 64);
+
+BEGINS(found);
+AT(found, at, 48, 8);
+ENDS(found, 56);
+
 /* of this head the field at `index` is `value`, and the others are 0 */
 static void alone(const char *bytes, size_t index, uint32_t value) {
     uint8_t b[8];

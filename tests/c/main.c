@@ -12,6 +12,7 @@ int main(void) {
     joined();
     damaged();
     quotes();
+    indexes();
     lengths();
     sums();
     adders();

@@ -9,8 +9,8 @@ import sys
 import tempfile
 
 root = os.path.dirname(os.path.dirname(os.path.dirname(os.path.abspath(__file__))))
-HEADER, PREFIX, DECODE, STEP, QUOTES, ANSWER, VERSION, SUMMED = "include/brothladder.h", *(
-    f"crates/c_{c}/src/lib.rt" for c in ("prefix", "decode", "step", "quotes", "answer", "version", "summed"))
+HEADER, PREFIX, DECODE, STEP, QUOTES, INDEX, ANSWER, VERSION, SUMMED = "include/brothladder.h", *(
+    f"crates/c_{c}/src/lib.rt" for c in ("prefix", "decode", "step", "quotes", "index", "answer", "version", "summed"))
 EDITIONS = "crates/ndp_options/specs/Editions.antt"
 
 
@@ -60,11 +60,12 @@ def fields(a, b):
 
 
 lifetimes = {HEADER: exchanged("uint32_t valid_lifetime;", "uint32_t preferred_lifetime;"), PREFIX: exchanged("pub valid_lifetime: u32", "pub preferred_lifetime: u32")}
-places = {HEADER: exchanged("    size_t at;", "    size_t next;"), STEP: exchanged("pub at: usize", "pub next: usize")}
-place = {HEADER: exchanged("    size_t at;", "    size_t place; /* where the option begins in the packet: offset + at */"), STEP: exchanged("pub at: usize", "pub place: usize")}
+places = {HEADER: exchanged("    size_t at;    ", "    size_t next;"), STEP: exchanged("pub at: usize", "pub next: usize")}
+place = {HEADER: exchanged("    size_t at;    ", "    size_t place; /* where the option begins in the packet: offset + at */"), STEP: exchanged("pub at: usize", "pub place: usize")}
 levels = {HEADER: exchanged("    uint8_t next_header[8];", "    uint8_t level_kind[8];"), QUOTES: exchanged("pub next_header: [u8; 8]", "pub level_kind: [u8; 8]")}
 nine = {HEADER: instead("uint32_t quote[8];", "uint32_t quote[9];"), QUOTES: instead("pub quote: [u32; 8]", "pub quote: [u32; 9]")}
 wide = {HEADER: instead("uint16_t on_link;", "uint32_t on_link;"), PREFIX: instead("pub on_link: u16", "pub on_link: u32")}
+entries = {HEADER: exchanged("    size_t length;  /* the list", "    size_t entries; /* and"), INDEX: exchanged("pub length: usize", "pub entries: usize")}
 MISTAKES = [
     ("nothing", {}, []),
     ("two members exchanged in source and header", lifetimes, ["layout"]),
@@ -73,6 +74,9 @@ MISTAKES = [
     ("a member made wider in source and header", wide, ["layout"]),
     ("next header and kind of a level exchanged in source and header", levels, ["layout"]),
     ("a ninth quote in source and header", nine, ["layout"]),
+    ("length and entries exchanged in source and header", entries, ["layout"]),
+    ("numbers told as bytes in a prototype", {HEADER: instead("brothladder_index_first(const uint32_t *index", "brothladder_index_first(const uint8_t *index")}, ["header"]),
+    ("numbers that are written told as read", {HEADER: instead("size_t options_length, uint32_t *index", "size_t options_length, const uint32_t *index")}, ["header"]),
     ("two members exchanged in the header", {HEADER: lifetimes[HEADER]}, ["header", "layout"]),
     ("two members exchanged in the source", {PREFIX: lifetimes[PREFIX]}, ["header"]),
     ("the indexes of M and O exchanged", {HEADER: fields("MANAGED", "OTHER")}, ["header"]),

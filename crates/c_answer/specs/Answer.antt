@@ -70,9 +70,19 @@ SUM = 17
 abbrev pub UPDATED : ℕ
 UPDATED = 18
 
+-- an index; an option found in it, or none
+abbrev pub INDEXED : ℕ
+INDEXED = 19
+
+abbrev pub FOUND : ℕ
+FOUND = 20
+
+abbrev pub NONE : ℕ
+NONE = 21
+
 -- all of them
 abbrev pub answers : List ℕ
-answers = REFUSED ∷ KNOWN ∷ UNKNOWN ∷ VALID ∷ INVALID ∷ OPTION ∷ END ∷ STOPPED ∷ RECEIVED ∷ WRITTEN ∷ PREFIX ∷ CHAIN ∷ ROUTE ∷ IGNORED ∷ SERVERS ∷ PREFERENCE ∷ SUM ∷ UPDATED ∷ []
+answers = REFUSED ∷ KNOWN ∷ UNKNOWN ∷ VALID ∷ INVALID ∷ OPTION ∷ END ∷ STOPPED ∷ RECEIVED ∷ WRITTEN ∷ PREFIX ∷ CHAIN ∷ ROUTE ∷ IGNORED ∷ SERVERS ∷ PREFERENCE ∷ SUM ∷ UPDATED ∷ INDEXED ∷ FOUND ∷ NONE ∷ []
 
 -- each number of a list above the one before it, the first above n: then no two are alike, and none is n
 abbrev pub rising : ℕ → List ℕ → Bool

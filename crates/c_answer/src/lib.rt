@@ -36,3 +36,9 @@ pub const PREFERENCE: u32 = 16;
 pub const SUM: u32 = 17;
 
 pub const UPDATED: u32 = 18;
+
+pub const INDEXED: u32 = 19;
+
+pub const FOUND: u32 = 20;
+
+pub const NONE: u32 = 21;

@@ -13,7 +13,7 @@ use Rattle.ndp_options.specs.Editions.{shownFirst}
 use Rattle.ndp_options.specs.Walk.{walkFrom}
 use Rattle.ndp_options.specs.declared.Edition.the-variants.{First, Second}
 use Rattle.ndp_options.proofs.Editions.{whole-too, clean-first}
-use Rattle.ndp_option_list.specs.Whole.{wholeOf, countOf, occurs, occursOf, first, firstOf}
+use Rattle.ndp_option_list.specs.Whole.{wholeOf, countOf, occurs, occursOf, firstBy, first, firstOf}
 use Rattle.ndp_option_list.proofs.Whole.{answered, whole}
 
 abbrev pub shown : List Item → List Item
@@ -29,7 +29,7 @@ occurs-shown type [] = refl
 occurs-shown type (i ∷ is) = ap (cond (eqb (i .type) type) true) (occurs-shown type is)
 
 first-shown : (type : ℕ) (is : List Item) → first type (shown is) ≡ first type is
-unfolding first
+unfolding firstBy
 first-shown type [] = refl
 first-shown type (i ∷ is) = ap (cond (eqb (i .type) type) (i .at ∷ i .len ∷ [])) (first-shown type is)
 

@@ -19,7 +19,7 @@ use Rattle.ndp_options.specs.Editions.{ruleBy}
 use Rattle.ndp_options.specs.Walk.{walk, walkFrom}
 use Rattle.ndp_options.specs.declared.Edition.{Edition}
 use Rattle.ndp_options.proofs.Laws.{own}
-use Rattle.ndp_option_list.specs.Whole.{wholeOf, occurs, occursOf, first, firstOf}
+use Rattle.ndp_option_list.specs.Whole.{wholeOf, occurs, occursOf, firstBy, first, firstOf}
 use Rattle.ndp_option_list.proofs.Whole.{walk-refused, answered, whole}
 
 -- ---- whether there is one
@@ -28,7 +28,7 @@ some [] = 0
 some (x ∷ l) = 1
 
 as-occurs : (type : ℕ) (is : List Item) → oneIf (occurs type is) ≡ some (first type is)
-unfolding occurs first
+unfolding occurs firstBy
 as-occurs type [] = refl
 as-occurs type (i ∷ is) = by (eqb (i .type) type) (as-occurs type is)
   where
@@ -63,7 +63,7 @@ pub data Firstly (o : ℕ) (s : List ℕ) : List ℕ → Type 0 where
   there : (at len : ℕ) → at + len ≤ length s → 8 ≤ len → Firstly o s ((o + at) ∷ len ∷ [])
 
 pub firstly : (ed : Edition) (type o : ℕ) (s : List ℕ) → Firstly o s (first type (walkFrom ed o s .items))
-unfolding first
+unfolding firstBy
 firstly ed type o s = rw (items-from (ruleBy ed) o s) (go (walk ed s .items) (own ed s))
   where
     by : (b : Bool) (i : Item) (l : List ℕ) → Of (ruleBy ed) s i → Firstly o s l → Firstly o s (cond b ((o + i .at) ∷ i .len ∷ []) l)

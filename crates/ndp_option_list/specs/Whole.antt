@@ -30,10 +30,14 @@ occurs type (i ∷ is) = cond (eqb (i .type) type) true (occurs type is)
 abbrev pub occursOf : Edition → ℕ → ℕ → List ℕ → Paper
 occursOf e type offset s = wholeOf e offset s (λ is. oneIf (occurs type is) ∷ [])
 
+-- the first that passes a test, in the numbers that tell of it; no numbers where none does
+unfoldable pub firstBy : {A : Type 0} → (A → Bool) → (A → List ℕ) → List A → List ℕ
+firstBy test tells [] = []
+firstBy test tells (x ∷ xs) = cond (test x) (tells x) (firstBy test tells xs)
+
 -- the first option of the type: its place and its length; no numbers where there is none, which is where `occurs` says no
-unfoldable pub first : ℕ → List Item → List ℕ
-first type [] = []
-first type (i ∷ is) = cond (eqb (i .type) type) (i .at ∷ i .len ∷ []) (first type is)
+abbrev pub first : ℕ → List Item → List ℕ
+first type is = firstBy (λ i. eqb (i .type) type) (λ i. i .at ∷ i .len ∷ []) is
 
 abbrev pub firstOf : Edition → ℕ → ℕ → List ℕ → Paper
 firstOf e type offset s = wholeOf e offset s (λ is. first type is)

@@ -23,7 +23,7 @@ use Rattle.ndp_options.specs.Editions.{ruleBy}
 use Rattle.ndp_options.specs.Walk.{walkFrom}
 use Rattle.ndp_options.specs.declared.Edition.{Edition}
 use Rattle.ndp_options.specs.declared.Edition.the-variants.{First, Second}
-use Rattle.ndp_option_list.specs.Whole.{wholeOf, first, firstOf}
+use Rattle.ndp_option_list.specs.Whole.{wholeOf, firstBy, first, firstOf}
 use Rattle.ndp_option_list.proofs.Whole.{answered}
 
 -- ---- one option
@@ -87,7 +87,7 @@ module _ (ed : Edition) where
 
   -- ---- the first option of a type
   first-from : (type : ℕ) {at to : ℕ} {l r : List ℕ} {is : List Item} → Path (ruleBy ed) at l is to r → (q n : ℕ) → first type is ≡ q ∷ n ∷ [] → at ≤ q
-  unfolding first
+  unfolding firstBy
   first-from type here q n e = absurd (let z : _≡_ {A = ℕ} 0 2 = ap (λ (l : List ℕ). length l) e in omega arith)
   first-from type (past {at = at} {t = t} {len = len} {is = is} j p) q n e = by (eqb t type) e (λ f. first-from type p q n f)
     where
@@ -96,7 +96,7 @@ module _ (ed : Edition) where
       by false e go = let z = go e in omega arith
 
   first-inside : (type : ℕ) → type ≢ 24 → {at to : ℕ} {l r : List ℕ} {is : List Item} → Path (ruleBy ed) at l is to r → (q n : ℕ) → first type is ≡ q ∷ n ∷ [] → (p : ℕ) → q + 2 ≤ p → p < q + n → Inside p is
-  unfolding first
+  unfolding firstBy
   first-inside type other here q n e p a b = absurd (let z : _≡_ {A = ℕ} 0 2 = ap (λ (l : List ℕ). length l) e in omega arith)
   first-inside type other (past {at = at} {t = t} {len = len} {is = is} j path) q n e p a b = by (eqb t type) refl e (λ f. first-from type path q n f) (λ f. first-inside type other path q n f p a b)
     where

@@ -16,7 +16,7 @@ use Rattle.ndp_walk.proofs.Placed.{items-from, clean-from}
 use Rattle.ndp_options.specs.Editions.{ruleBy}
 use Rattle.ndp_options.specs.Walk.{walk}
 use Rattle.ndp_options.specs.declared.Edition.{Edition}
-use Rattle.ndp_option_list.specs.Whole.{first, firstOf}
+use Rattle.ndp_option_list.specs.Whole.{firstBy, first, firstOf}
 use Rattle.ndp_option_list.proofs.Whole.{answered, whole}
 use Rattle.quotes.specs.Head.{version, nextHeader}
 use Rattle.quotes.specs.Chain.{quoteIn, foundOf}
@@ -32,7 +32,7 @@ placeBy o [] = []
 placeBy o (at ∷ l) = (o + at) ∷ l
 
 first-moved : (type o : ℕ) (is : List Item) → first type (map (shiftItem o) is) ≡ placeBy o (first type is)
-unfolding first
+unfolding firstBy
 first-moved type o [] = refl
 first-moved type o (i ∷ is) = by (eqb (i .type) type) (first-moved type o is)
   where

@@ -10,7 +10,7 @@ use lib.ListN.{getD, length}
 use Rattle.paper.specs.Paper.{Paper}
 use Rattle.paper.proofs.Lossless.{lossless}
 use Rattle.refusal.specs.declared.Refusal.{Refusal}
-use Rattle.refusal.specs.declared.Refusal.the-variants.{ShortPacket, LongPacket, LongPayload, ShortFixedPart, UnexpectedSize, ZeroLength, UnexpectedEndOfSlice, UnexpectedHeader, ShortOutput, KnownPair, NotReceived, NoMark, LongRecord, CaptureEnds, ShortQuote, QuoteVersion, DeepQuote, LongRoutePrefix, NoWord, FarOffset}
+use Rattle.refusal.specs.declared.Refusal.the-variants.{ShortPacket, LongPacket, LongPayload, ShortFixedPart, UnexpectedSize, ZeroLength, UnexpectedEndOfSlice, UnexpectedHeader, ShortOutput, KnownPair, NotReceived, NoMark, LongRecord, CaptureEnds, ShortQuote, QuoteVersion, DeepQuote, LongRoutePrefix, NoWord, ManyOptions, FarOffset, OtherIndex}
 use Rattle.refusal.specs.Table.{values}
 use Rattle.refusal.specs.Paper.{refusal, slots}
 
@@ -35,7 +35,9 @@ refusalOf p =
     (cond (eqb (p .number) 17) (DeepQuote (getD (p .values) 0 0))
     (cond (eqb (p .number) 18) (LongRoutePrefix (getD (p .values) 0 0))
     (cond (eqb (p .number) 19) (NoWord (getD (p .values) 0 0))
-    FarOffset)))))))))))))))))))
+    (cond (eqb (p .number) 20) ManyOptions
+    (cond (eqb (p .number) 22) FarOffset
+    OtherIndex)))))))))))))))))))))
 
 pub refusal-back : (r : Refusal) → refusalOf (refusal r) ≡ r
 refusal-back (ShortPacket a b) = refl
@@ -57,7 +59,9 @@ refusal-back (QuoteVersion a) = refl
 refusal-back (DeepQuote a) = refl
 refusal-back (LongRoutePrefix a) = refl
 refusal-back (NoWord a) = refl
+refusal-back ManyOptions = refl
 refusal-back FarOffset = refl
+refusal-back OtherIndex = refl
 
 -- no refusal has the number 0, which is that of an answer that refuses nothing
 pub refusal-numbered : (r : Refusal) → eqb (refusal r .number) 0 ≡ false
@@ -80,7 +84,9 @@ refusal-numbered (QuoteVersion a) = refl
 refusal-numbered (DeepQuote a) = refl
 refusal-numbered (LongRoutePrefix a) = refl
 refusal-numbered (NoWord a) = refl
+refusal-numbered ManyOptions = refl
 refusal-numbered FarOffset = refl
+refusal-numbered OtherIndex = refl
 
 pub few : (r : Refusal) → length (values r) ≤ 5
 few (ShortPacket a b) = lit≤ tt
@@ -102,7 +108,9 @@ few (QuoteVersion a) = lit≤ tt
 few (DeepQuote a) = lit≤ tt
 few (LongRoutePrefix a) = lit≤ tt
 few (NoWord a) = lit≤ tt
+few ManyOptions = lit≤ tt
 few FarOffset = lit≤ tt
+few OtherIndex = lit≤ tt
 
 pub slots-at : (l : List ℕ) (i : ℕ) → i < 5 → getD (slots l) i 0 ≡ getD l i 0
 slots-at l zero h = refl

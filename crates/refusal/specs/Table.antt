@@ -1,9 +1,9 @@
--- docs/RULES.md N1 to N19 and N22: the number of each refusal and the values that it carries, in this order.
+-- docs/RULES.md N1 to N20, N22 and N23: the number of each refusal and the values that it carries, in this order.
 -- Assumes nothing.
 use Prim.Native.Nat.{ℕ}
 use mathlib.Core.List.{List, [], _∷_}
 use Rattle.refusal.specs.declared.Refusal.{Refusal}
-use Rattle.refusal.specs.declared.Refusal.the-variants.{ShortPacket, LongPacket, LongPayload, ShortFixedPart, UnexpectedSize, ZeroLength, UnexpectedEndOfSlice, UnexpectedHeader, ShortOutput, KnownPair, NotReceived, NoMark, LongRecord, CaptureEnds, ShortQuote, QuoteVersion, DeepQuote, LongRoutePrefix, NoWord, FarOffset}
+use Rattle.refusal.specs.declared.Refusal.the-variants.{ShortPacket, LongPacket, LongPayload, ShortFixedPart, UnexpectedSize, ZeroLength, UnexpectedEndOfSlice, UnexpectedHeader, ShortOutput, KnownPair, NotReceived, NoMark, LongRecord, CaptureEnds, ShortQuote, QuoteVersion, DeepQuote, LongRoutePrefix, NoWord, ManyOptions, FarOffset, OtherIndex}
 
 abbrev pub number : Refusal → ℕ
 number (ShortPacket a b) = 1
@@ -25,7 +25,9 @@ number (QuoteVersion a) = 16
 number (DeepQuote a) = 17
 number (LongRoutePrefix a) = 18
 number (NoWord a) = 19
+number ManyOptions = 20
 number FarOffset = 22
+number OtherIndex = 23
 
 abbrev pub values : Refusal → List ℕ
 values (ShortPacket a b) = a ∷ b ∷ []
@@ -47,4 +49,6 @@ values (QuoteVersion a) = a ∷ []
 values (DeepQuote a) = a ∷ []
 values (LongRoutePrefix a) = a ∷ []
 values (NoWord a) = a ∷ []
+values ManyOptions = []
 values FarOffset = []
+values OtherIndex = []

@@ -1,4 +1,4 @@
-// The refusals (docs/RULES.md N1 to N19 and N22), which every answer of the library shares.
+// The refusals (docs/RULES.md N1 to N20, N22 and N23), which every answer of the library shares.
 ghost use mathlib.Core.Path.{_≡_};
 ghost use lib.ListN.{getD, length};
 ghost use Rattle.refusal.specs.Table.{number, values};
@@ -10,7 +10,7 @@ pub struct NdpOptionType(pub u8);
 // The length field of an option, in units of eight octets: never a number of bytes.
 pub struct LengthUnits(pub u8);
 
-// The variants stand in the order of the table: 1 to 19, then 22. A place is that in the whole packet.
+// The variants stand in the order of the table: 1 to 20, then 22 and 23. A place is that in the whole packet.
 pub enum Refusal {
     ShortPacket {
         least: usize,
@@ -85,7 +85,9 @@ pub enum Refusal {
     NoWord {
         place: usize,
     },
+    ManyOptions,
     FarOffset,
+    OtherIndex,
 }
 
 // A refusal as numbers: its number, how many values it carries, and the values, 0 past the last.
@@ -217,8 +219,18 @@ impl Refusal {
                 count: 1,
                 values: [place as u64, 0, 0, 0, 0],
             },
+            Refusal::ManyOptions => Numbers {
+                number: 20,
+                count: 0,
+                values: [0, 0, 0, 0, 0],
+            },
             Refusal::FarOffset => Numbers {
                 number: 22,
+                count: 0,
+                values: [0, 0, 0, 0, 0],
+            },
+            Refusal::OtherIndex => Numbers {
+                number: 23,
                 count: 0,
                 values: [0, 0, 0, 0, 0],
             },

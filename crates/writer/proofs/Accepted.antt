@@ -10,7 +10,7 @@ use mathlib.Core.List.{List, [], _∷_}
 use lib.Dec.{ltb, lit<}
 use lib.ListN.{length, length-drop}
 use borrow.Author.Tests.{ltb-false, eq-eqb, ne-eqb}
-use Rattle.paper.specs.Paper.{Paper, refuses, gives}
+use Rattle.paper.specs.Paper.{Paper, refuses, gives, _orElse_}
 use Rattle.message_table.specs.Table.{fixedLen}
 use Rattle.icmpv6_type.specs.declared.Icmpv6Type.{Icmpv6Type}
 use Rattle.icmpv6_type.specs.Value.{kindNumber, typeNumber, codeNumber}
@@ -27,7 +27,7 @@ use Rattle.ndp_option_list.specs.Whole.{countOf}
 use Rattle.ndp_option_list.proofs.Whole.{answered, whole as whole-list}
 use Rattle.output.specs.Output.{roomFor}
 use Rattle.output.proofs.Fitting.{narrow}
-use Rattle.writer.specs.Write.{_orElse_, payloadOptions, optionsPlace, sendableOf, writeOf}
+use Rattle.writer.specs.Write.{payloadOptions, optionsPlace, sendableOf, writeOf}
 use Rattle.writer.specs.Accepted.{Accepted}
 use Rattle.writer.proofs.Laws.{rest, fitting}
 

@@ -9,7 +9,7 @@ use mathlib.Core.List.{List, [], _∷_}
 use lib.Dec.{ltb}
 use lib.ListN.{length, drop}
 use borrow.Author.Tests.{lt-ltb, le-ltb, ltb-false}
-use Rattle.paper.specs.Paper.{Paper, refuses, gives}
+use Rattle.paper.specs.Paper.{Paper, refuses, gives, _orElse_}
 use Rattle.refusal.specs.declared.Refusal.{Refusal}
 use Rattle.refusal.specs.Paper.{refusal}
 use Rattle.refusal.proofs.Paper.{refusal-numbered}
@@ -22,7 +22,7 @@ use Rattle.icmpv6_payload_slice.specs.Dispatch.{payloadTold, byValue}
 use Rattle.icmpv6_payload_slice.proofs.Opened.{placed}
 use Rattle.ndp_options.specs.declared.Edition.{Edition}
 use Rattle.ndp_option_list.specs.Whole.{countOf}
-use Rattle.writer.specs.Write.{_orElse_, payloadOptions, optionsPlace, sendableOf, writeOf}
+use Rattle.writer.specs.Write.{payloadOptions, optionsPlace, sendableOf, writeOf}
 use Rattle.output.specs.Output.{leaves}
 use Rattle.output.proofs.Fitting.{fits as there-is-room, narrow as no-room}
 

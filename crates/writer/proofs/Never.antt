@@ -9,7 +9,7 @@ use mathlib.Core.List.{List, [], _∷_}
 use lib.Dec.{ltb, eqb}
 use lib.ListN.{length}
 use borrow.Author.Tests.{ltb-false}
-use Rattle.paper.specs.Paper.{Paper, refuses, gives}
+use Rattle.paper.specs.Paper.{Paper, refuses, gives, _orElse_}
 use Rattle.message_table.specs.Table.{fixedLen}
 use Rattle.icmpv6_type.specs.declared.Icmpv6Type.{Icmpv6Type}
 use Rattle.icmpv6_type.specs.Value.{kindNumber, typeNumber, codeNumber}
@@ -21,7 +21,7 @@ use Rattle.ndp_option_list.specs.Whole.{countOf}
 use Rattle.ndp_option_list.proofs.Whole.{never-far}
 use Rattle.output.specs.Output.{roomFor}
 use Rattle.output.proofs.Fitting.{narrow, fits}
-use Rattle.writer.specs.Write.{_orElse_, payloadOptions, optionsPlace, sendableOf, writeOf}
+use Rattle.writer.specs.Write.{payloadOptions, optionsPlace, sendableOf, writeOf}
 use Rattle.writer.proofs.Accepted.{near}
 
 module _ (ed : Edition) (t : Icmpv6Type) (s out : List ℕ) where

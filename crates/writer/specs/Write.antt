@@ -4,9 +4,9 @@ use Prim.Native.Nat.{ℕ, _+_}
 use mathlib.Core.Bool.{cond}
 use mathlib.Core.Path.{_≡_}
 use mathlib.Core.List.{List, [], _∷_, _++_}
-use lib.Dec.{ltb, eqb}
+use lib.Dec.{ltb}
 use lib.ListN.{length, take, drop}
-use Rattle.paper.specs.Paper.{Paper, refuses, gives}
+use Rattle.paper.specs.Paper.{Paper, refuses, gives, _orElse_}
 use Rattle.refusal.specs.Paper.{refusal}
 use Rattle.icmpv6_type.specs.declared.Icmpv6Type.{Icmpv6Type}
 use Rattle.icmpv6_type.specs.Value.{kindNumber, typeNumber, codeNumber}
@@ -22,11 +22,6 @@ use Rattle.output.specs.declared.Written.the-variants as output
 use Rattle.output.specs.Output.{leaves, roomFor}
 use Rattle.writer.specs.declared.Sendable.{Sendable}
 use Rattle.writer.specs.declared.Sendable.the-variants.{Yes, Refused}
-
--- an answer where it refuses, else the next
-infixr 20 _orElse_
-abbrev pub _orElse_ : Paper → Paper → Paper
-a orElse b = cond (eqb (a .number) 0) b a
 
 -- the option bytes, where the dispatch places them: none unless the value is of types 133 to 137
 abbrev pub payloadOptions : Icmpv6Type → List ℕ → List ℕ

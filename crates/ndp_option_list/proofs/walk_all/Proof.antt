@@ -22,7 +22,7 @@ use Rattle.ndp_options.specs.Walk.{walkFrom}
 use Rattle.ndp_options.specs.declared.Edition.{Edition}
 use Rattle.ndp_options.specs.Told.{itemTold}
 use Rattle.ndp_options.proofs.Steps.{handed-on, ended-at, refused-at, not-stopped}
-use Rattle.ndp_option_list.specs.Whole.{wholeOf, first, tallyOf}
+use Rattle.ndp_option_list.specs.Whole.{wholeOf, firstBy, first, tallyOf}
 use Rattle.ndp_option_list.specs.Told.{spotTold}
 use Rattle.ndp_option_list.specs.declared.Spot.{Spot}
 use borrow.Author.Needs.{needs}
@@ -38,7 +38,7 @@ spot place len = record { place = place; len = len }
 
 -- one option more, which has some bytes
 turn : (wanted n : ℕ) (found : Spot) (i : Item) (w : Walk) → 8 ≤ i .len → more wanted n found (then (i ∷ []) w) ≡ more wanted (n + 1) (cond (eqb (found .len) 0) (cond (eqb (i .type) wanted) (spot (i .at) (i .len)) found) found) w
-unfolding first
+unfolding firstBy
 turn wanted n found i w h = by (eqb (found .len) 0) refl (eqb (i .type) wanted) (omega arith)
   where
     some : eqb (i .len) 0 ≡ false
@@ -53,7 +53,7 @@ turn wanted n found i w h = by (eqb (found .len) 0) refl (eqb (i .type) wanted) 
 
 -- no more
 over : (wanted n : ℕ) (found : Spot) → more wanted n found clean ≡ gives (n ∷ spotTold found)
-unfolding first
+unfolding firstBy
 over wanted n found = ap (λ (k : ℕ). gives (k ∷ spotTold found)) (add-zero n)
 
 -- the same of bytes at an offset: 22 if they are too far on

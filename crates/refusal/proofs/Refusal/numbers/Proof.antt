@@ -94,6 +94,12 @@ enum-known-self-19 c = search needs
 enum-told : tie.Need-enum-told
 enum-told c = search needs
 
+enum-told-2 : tie.Need-enum-told-2
+enum-told-2 c = search needs
+
+enum-told-3 : tie.Need-enum-told-3
+enum-told-3 c = search needs
+
 returns : tie.Need-returns
 returns c = rw (c .before .self .given .1)
 
@@ -154,6 +160,12 @@ returns-19 c = rw (c .before .self19 .given .1)
 returns-20 : tie.Need-returns-20
 returns-20 c = rw (c .enum-told .given .1)
 
+returns-21 : tie.Need-returns-21
+returns-21 c = rw (c .enum-told2 .given .1)
+
+returns-22 : tie.Need-returns-22
+returns-22 c = rw (c .enum-told3 .given .1)
+
 pub numbers-spec : {M : Type 1} → statement M
 numbers-spec =
     tie.close
@@ -188,6 +200,8 @@ numbers-spec =
     enum-known-self-18
     enum-known-self-19
     enum-told
+    enum-told-2
+    enum-told-3
     returns
     returns-2
     returns-3
@@ -207,4 +221,6 @@ numbers-spec =
     returns-17
     returns-18
     returns-19
-    returns-20)
+    returns-20
+    returns-21
+    returns-22)

@@ -1,0 +1,20 @@
+-- `first` is safe: a part that is no longer than the buffer.
+-- Assumes nothing.
+use mathlib.Core.Path.{sym}
+use native.Mathlib.Omega.{arith}
+use lib.Seq.{length-take-le}
+use borrow.Author.Needs.{needs}
+use Rattle.index_cases.proofs.first.Statement.{statement}
+use Rattle.index_cases.proofs.first.Tie as tie
+
+returns : tie.Need-returns
+returns c = search needs
+
+slice-aggregate-result : tie.Need-slice-aggregate-result
+slice-aggregate-result c = sym (length-take-le _ _ (omega arith))
+
+returns-2 : tie.Need-returns-2
+returns-2 c = search needs
+
+pub first-spec : {M : Type 1} → statement M
+first-spec = tie.close (tie.spec returns slice-aggregate-result returns-2)
