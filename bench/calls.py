@@ -1,4 +1,4 @@
-"""calls.py PAGE: the three tables of what bench/calls measured, printed and written into PAGE between their marks. Run in target/bench_calls.
+"""calls.py PAGE: the tables of what bench/calls measured, printed and written into PAGE between their marks. Run in target/bench_calls.
 
 The stack of a call is read from the code: what a function pushes and reserves, the part below its stack pointer that it uses (the red zone of the
 x86-64 ABI), and the deepest of what it calls. No call is indirect, and none comes back to itself but those of CYCLE, which is tested; what is read of
@@ -9,7 +9,7 @@ from functools import lru_cache
 
 CALLS = ["decode", "verify", "receive", "step", "read_prefix", "read_route", "read_dns", "preference", "write", "write_clearing", "write_keeping", "chain",
          "sum", "sum_pseudo", "sum_push", "sum_join", "verify_by_fours", "updated_checksum", "change_word",
-         "index_build", "index_append", "index_first", "index_next", "version_5"]
+         "index_build", "index_append", "index_first", "index_next", "check_plan", "plan", "plan_message", "version_5"]
 AIM_CODE, AIM_STACK = 16 * 1024, {c: 2048 if c == "chain" else 512 for c in CALLS}
 # the functions that come back to themselves, and how often each is entered at most: a packet and eight levels have nine messages, and the ninth quote is
 # refused (docs/RULES.md Q11)
@@ -69,6 +69,14 @@ for what in ("first", "next", "walk to it", "build", "walk to END", "append of o
     loop = what.startswith("walk")
     cells = [index.get((what, n)) for n in placed + listed]
     index_rows.append(f"| {what} | " + " | ".join("" if c is None else f"{c - index['nothing', n if n in listed else listed[-1]] + (0 if loop else 2):,}" for c, n in zip(cells, placed + listed)) + " |")
+
+# ---- instructions of the calls over a plan
+measured = {int(l.split(";")[0]): tuple(l.strip().split(";")[1:]) for l in open("split.names")}
+counted = {measured[int(l.split()[0])]: int(l.split()[2]) for l in open("split.counts") if int(l.split()[0]) in measured}
+kinds_of_calls = list(dict.fromkeys(c for _, c in measured.values()))
+split_rows = ["| | " + " | ".join(kinds_of_calls) + " |", "|---|" + "---|" * len(kinds_of_calls)]
+split_rows += [f"| {who} | " + " | ".join(f"{counted[who, c] - counted['nothing', c] + 2:,}" for c in kinds_of_calls) + " |"
+               for who in dict.fromkeys(w for w, _ in measured.values()) if who != "nothing"]
 
 # ---- code
 code, section = {}, None
@@ -149,7 +157,7 @@ notes = (f"Symbols asked of the outside (`nm -u`): {len(asks) or 'none'}. Reloca
          f"write to {max(seen)[0]:,}. Plain C, code and constants together: {plain}.")
 
 page = open(sys.argv[1]).read()
-for mark, table in (("instructions", rows), ("sums", sum_rows), ("index", index_rows), ("size", size_rows + ["", notes])):
+for mark, table in (("instructions", rows), ("sums", sum_rows), ("index", index_rows), ("plans", split_rows), ("size", size_rows + ["", notes])):
     start, end = f"<!-- bench/calls writes {mark} from here -->\n", f"<!-- {mark} to here -->\n"
     head, rest = page.split(start)
     page = head + start + "\n" + "\n".join(table) + "\n\n" + end + rest.split(end)[1]

@@ -51,18 +51,19 @@
  * all of them anew once. Each later change of a struct, an argument or a meaning takes the next number. A call that is added takes none:
  * whoever makes it does not link with a library that lacks it.
  *
- * What you must ensure: each pointer can be read (`out`: written; the packet of brothladder_change_word, and `list` and `index` of
- * brothladder_index_build and .._append: both) for the length that goes with it, which counts numbers where it points to uint32_t, and an
- * address for 16 bytes. A pointer may be NULL only if its length is 0. Nobody else writes to a buffer during the call. A buffer that is
- * written does not overlap another buffer of the same call.
+ * What you must ensure: each pointer can be read (`out`, and `plan` of brothladder_plan: written; the packet of brothladder_change_word,
+ * and `list` and `index` of brothladder_index_build and .._append: both) for the length that goes with it, which counts numbers where it
+ * points to uint32_t, and an address for 16 bytes. A pointer may be NULL only if its length is 0. Nobody else writes to a buffer during
+ * the call. A buffer that is written does not overlap another buffer of the same call.
  *
  * What a call uses: less than 512 bytes of stack (brothladder_chain: less than 2,048), the xmm registers, and the red zone below the
  * stack pointer (x86-64 System V ABI). If your kernel runs without SSE or a red zone, call these functions only where both are
  * available (on Linux between kernel_fpu_begin and kernel_fpu_end).
  *
  * What a call changes: nothing, except the packet's own bytes in `out` when a brothladder_write.. returns BROTHLADDER_WRITTEN, a word
- * and the checksum field of `packet` when brothladder_change_word returns BROTHLADDER_UPDATED, and the new entries in `index` and the new
- * bytes in `list` when brothladder_index_build or .._append returns BROTHLADDER_INDEXED. A call that refuses changes no buffer.
+ * and the checksum field of `packet` when brothladder_change_word returns BROTHLADDER_UPDATED, the new entries in `index` and the new
+ * bytes in `list` when brothladder_index_build or .._append returns BROTHLADDER_INDEXED, and the counts in `plan` when brothladder_plan
+ * returns BROTHLADDER_PLANNED. A call that refuses changes no buffer.
  */
 #ifndef BROTHLADDER_H
 #define BROTHLADDER_H
@@ -90,7 +91,7 @@ extern "C" {
 #define BROTHLADDER_EDITION_FIRST 1u
 #define BROTHLADDER_EDITION_SECOND 2u
 
-/* Values of `answer`. They all differ, over all calls, and none is 0. */
+/* Values of `answer`. They all differ, and none is 0. Two calls share one only where it says the same of both. */
 #define BROTHLADDER_REFUSED 1u  /* any call: the input was bad; `refusal` and `value` say why */
 #define BROTHLADDER_KNOWN 2u    /* decode: a head whose type and code are known */
 #define BROTHLADDER_UNKNOWN 3u  /* decode: any other head */
@@ -112,6 +113,9 @@ extern "C" {
 #define BROTHLADDER_INDEXED 19u /* index build, append: the index is that of the list */
 #define BROTHLADDER_FOUND 20u   /* index first, next: the place of an option */
 #define BROTHLADDER_NONE 21u    /* index first, next: no entry is such a one */
+#define BROTHLADDER_ACCEPTED 22u /* check plan, plan message: the plan is accepted, and has this message */
+#define BROTHLADDER_NOT_ACCEPTED 23u /* check plan, plan message: it is not, or has no such message. Do not send by it */
+#define BROTHLADDER_PLANNED 24u /* plan: the counts are in `plan` */
 
 /* Values of `refusal`, which says why a call refused; 0 if it did not. `value` has the numbers that go with it, 0 past the last. The
  * last number of 5 to 8 and the one of 18 is the place of the refused option in the packet: `offset` + `at` of a step, `offset` of the
@@ -125,7 +129,7 @@ extern "C" {
 #define BROTHLADDER_REFUSAL_ZERO_LENGTH 6u            /* option type    place                                                 */
 #define BROTHLADDER_REFUSAL_UNEXPECTED_END_OF_SLICE 7u /* option type   expected       actual bytes    place                  */
 #define BROTHLADDER_REFUSAL_UNEXPECTED_HEADER 8u      /* expected type  actual type    expected units  actual units  place    */
-#define BROTHLADDER_REFUSAL_SHORT_OUTPUT 9u           /* bytes that `out`, `list` or `index` must have                        */
+#define BROTHLADDER_REFUSAL_SHORT_OUTPUT 9u           /* bytes that `out`, `list`, `index` or `plan` must have                */
 #define BROTHLADDER_REFUSAL_KNOWN_PAIR 10u            /* type           code           (no call here returns it)              */
 #define BROTHLADDER_REFUSAL_NOT_RECEIVED 11u          /* BROTHLADDER_REASON_..                                                */
 #define BROTHLADDER_REFUSAL_NO_MARK 12u               /* place          (12 to 14: the dump program only)                     */
@@ -137,6 +141,7 @@ extern "C" {
 #define BROTHLADDER_REFUSAL_LONG_ROUTE_PREFIX 18u     /* place          (second edition only) a prefix length above 128       */
 #define BROTHLADDER_REFUSAL_NO_WORD 19u               /* place          (updates only) odd, or 2, or not both bytes are there */
 #define BROTHLADDER_REFUSAL_MANY_OPTIONS 20u          /* (none) an index has 64 entries at most                               */
+#define BROTHLADDER_REFUSAL_NO_PLAN 21u               /* (none) no plan is accepted: the limit is too low, or an option too long */
 #define BROTHLADDER_REFUSAL_FAR_OFFSET 22u            /* (none) offset + length is above 4294967295: no packet is that long   */
 #define BROTHLADDER_REFUSAL_OTHER_INDEX 23u           /* (none) the index is not the one that the list builds                 */
 
@@ -317,6 +322,27 @@ struct brothladder_found {
     uint32_t refusal;
     uint64_t value[5];
     size_t at; /* where the option begins, counted from the list's first byte: what brothladder_step takes as `at` */
+};
+
+struct brothladder_checked {
+    uint32_t answer; /* ACCEPTED, NOT_ACCEPTED or REFUSED */
+    uint32_t refusal;
+    uint64_t value[5];
+};
+
+struct brothladder_planned {
+    uint32_t answer; /* PLANNED or REFUSED */
+    uint32_t refusal;
+    uint64_t value[5];
+    size_t messages; /* plan[i] options go into message i, for i from 0 to messages - 1 */
+};
+
+struct brothladder_part {
+    uint32_t answer; /* ACCEPTED, NOT_ACCEPTED or REFUSED */
+    uint32_t refusal;
+    uint64_t value[5];
+    size_t at; /* the options of the message are options[at] to options[at + length - 1] */
+    size_t length; /* 0 for the one message of an empty list */
 };
 
 /* Decodes the head of a packet. KNOWN: type, code, checksum field and the fields of the type; no field holds reserved bits. UNKNOWN: the
@@ -533,6 +559,46 @@ struct brothladder_found brothladder_index_first(const uint32_t *index, size_t i
 
 BROTHLADDER_ANSWER
 struct brothladder_found brothladder_index_next(const uint32_t *index, size_t index_length, size_t entries, uint8_t type, size_t after);
+
+/* Splits a router advertisement whose options are too many for one message (RFC 4861, section 6.2.3). A plan is how many consecutive
+ * options go into each message: plan[0] into the first, plan[1] into the next. It may be yours: brothladder_check_plan says whether it is
+ * accepted for these options and this limit, and brothladder_plan makes one of the fewest messages. `limit` is the most bytes of ICMPv6
+ * that a message may have; 16 of them are its head and fixed part. A plan is accepted exactly if every message is within the limit, every
+ * message has an option (only the plan of no options at all is one message without), and all options are in it, once and in order.
+ *
+ *     if (brothladder_check_plan(options, length, limit, plan, messages, edition).answer != BROTHLADDER_ACCEPTED)
+ *         return -1;                                          // not accepted, or refused: send nothing
+ *     for (size_t i = 0; i < messages; i++) {
+ *         struct brothladder_part m = brothladder_plan_message(options, length, limit, plan, messages, i, edition);
+ *         if (m.answer != BROTHLADDER_ACCEPTED)
+ *             return -1;
+ *         memcpy(payload, fixed_part, 8);
+ *         memcpy(payload + 8, options + m.at, m.length);      // 16 + m.length is at most the limit
+ *         struct brothladder_written w = brothladder_write_clearing(BROTHLADDER_TYPE_ROUTER_ADVERTISEMENT, 0, bytes5to8, payload,
+ *                                                                   8 + m.length, source, destination, out, out_length, edition);
+ *         if (w.answer != BROTHLADDER_WRITTEN)
+ *             return -1;
+ *         send(out, w.length);
+ *     }
+ *
+ * Do not test an answer as a boolean: BROTHLADDER_NOT_ACCEPTED and BROTHLADDER_REFUSED are not 0 either.
+ * check: refusals as of the steps over the options, at offset 0 (22; 5, 6, 7, and in the second edition 18), whatever plan and limit are.
+ * Any numbers will do as counts; an empty plan is never accepted, and no plan under a limit below 16.
+ * plan: the same; then 21 if no plan can be accepted, that is if the limit is below 16 or an option is longer than the limit less 16; then
+ * 9, with 4 bytes for each message. Numbers behind the plan stay as they were, and all of them on refusal.
+ * message: refusals as check. NOT_ACCEPTED also for an i from `plan_length` on. The parts of the messages, one behind the other, are the
+ * list, and each walks to END by itself. Each call checks the whole plan anew. */
+BROTHLADDER_ANSWER
+struct brothladder_checked brothladder_check_plan(const uint8_t *options, size_t options_length, size_t limit, const uint32_t *plan,
+                                                  size_t plan_length, uint32_t edition);
+
+BROTHLADDER_ANSWER
+struct brothladder_planned brothladder_plan(const uint8_t *options, size_t options_length, size_t limit, uint32_t *plan,
+                                            size_t plan_length, uint32_t edition);
+
+BROTHLADDER_ANSWER
+struct brothladder_part brothladder_plan_message(const uint8_t *options, size_t options_length, size_t limit, const uint32_t *plan,
+                                                 size_t plan_length, size_t i, uint32_t edition);
 
 /* Returns BROTHLADDER_VERSION. You need not call it: it is here to be referred to. `retain` keeps the reference where the linker drops
  * what nobody uses. */

@@ -102,5 +102,6 @@ void newer(void);   /* routes, servers and the preference, read by themselves */
 void joined(void);  /* option lists cut at every place */
 void damaged(void); /* 100,000 packets, random and damaged, beside plain.c */
 void indexes(void); /* the index beside the options, and lists that are grown */
+void splits(void);  /* plans: the worked cases of area Z, all small ones, and 100,000 by chance beside plain_plans.c */
 void quotes(void);  /* packets quoted in packets: the worked cases of area Q, and 100,000 nests beside plain.c */
 #endif

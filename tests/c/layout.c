@@ -66,6 +66,18 @@ BEGINS(preferred);
 AT(preferred, preference, 48, 8);
 ENDS(preferred, 56);
 
+BEGINS(checked);
+ENDS(checked, 48);
+
+BEGINS(planned);
+AT(planned, messages, 48, 8);
+ENDS(planned, 56);
+
+BEGINS(part);
+AT(part, at, 48, 8);
+AT(part, length, 56, 8);
+ENDS(part, 64);
+
 BEGINS(chain);
 AT(chain, kind, 48, 4);
 AT(chain, levels, 52, 4);

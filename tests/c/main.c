@@ -13,6 +13,7 @@ int main(void) {
     damaged();
     quotes();
     indexes();
+    splits();
     lengths();
     sums();
     adders();

@@ -21,6 +21,12 @@ struct brothladder_preferred plain_preference(const uint8_t *packet, size_t leng
 struct brothladder_updated plain_updated(const uint8_t *packet, size_t length, size_t place, uint16_t word);
 struct brothladder_updated plain_change(uint8_t *packet, size_t length, size_t place, uint16_t word);
 struct brothladder_chain plain_chain(const uint8_t *packet, size_t length, uint32_t edition);
+struct brothladder_checked plain_check_plan(const uint8_t *options, size_t length, size_t limit, const uint32_t *plan, size_t plan_length,
+                                            uint32_t edition);
+struct brothladder_planned plain_plan(const uint8_t *options, size_t length, size_t limit, uint32_t *plan, size_t plan_length,
+                                      uint32_t edition);
+struct brothladder_part plain_plan_message(const uint8_t *options, size_t length, size_t limit, const uint32_t *plan, size_t plan_length,
+                                           size_t i, uint32_t edition);
 
 /* the checksum that a packet's field should have */
 unsigned plain_checksum(const uint8_t *packet, size_t length, const uint8_t *source, const uint8_t *destination);

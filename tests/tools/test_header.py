@@ -9,8 +9,8 @@ import sys
 import tempfile
 
 root = os.path.dirname(os.path.dirname(os.path.dirname(os.path.abspath(__file__))))
-HEADER, PREFIX, DECODE, STEP, QUOTES, INDEX, ANSWER, VERSION, SUMMED = "include/brothladder.h", *(
-    f"crates/c_{c}/src/lib.rt" for c in ("prefix", "decode", "step", "quotes", "index", "answer", "version", "summed"))
+HEADER, PREFIX, DECODE, STEP, QUOTES, INDEX, SPLIT, ANSWER, VERSION, SUMMED = "include/brothladder.h", *(
+    f"crates/c_{c}/src/lib.rt" for c in ("prefix", "decode", "step", "quotes", "index", "split", "answer", "version", "summed"))
 EDITIONS = "crates/ndp_options/specs/Editions.antt"
 
 
@@ -66,6 +66,7 @@ levels = {HEADER: exchanged("    uint8_t next_header[8];", "    uint8_t level_ki
 nine = {HEADER: instead("uint32_t quote[8];", "uint32_t quote[9];"), QUOTES: instead("pub quote: [u32; 8]", "pub quote: [u32; 9]")}
 wide = {HEADER: instead("uint16_t on_link;", "uint32_t on_link;"), PREFIX: instead("pub on_link: u16", "pub on_link: u32")}
 entries = {HEADER: exchanged("    size_t length;  /* the list", "    size_t entries; /* and"), INDEX: exchanged("pub length: usize", "pub entries: usize")}
+parts = {HEADER: exchanged("    size_t at; /* the options of", "    size_t length; /* 0 for"), SPLIT: exchanged("pub at: usize", "pub length: usize")}
 MISTAKES = [
     ("nothing", {}, []),
     ("two members exchanged in source and header", lifetimes, ["layout"]),
@@ -77,6 +78,9 @@ MISTAKES = [
     ("length and entries exchanged in source and header", entries, ["layout"]),
     ("numbers told as bytes in a prototype", {HEADER: instead("brothladder_index_first(const uint32_t *index", "brothladder_index_first(const uint8_t *index")}, ["header"]),
     ("numbers that are written told as read", {HEADER: instead("size_t options_length, uint32_t *index", "size_t options_length, const uint32_t *index")}, ["header"]),
+    ("place and length of a part exchanged in source and header", parts, ["layout"]),
+    ("a plan that is written told as read", {HEADER: instead("size_t limit, uint32_t *plan", "size_t limit, const uint32_t *plan")}, ["header"]),
+    ("a plan of bytes in a prototype", {HEADER: instead("brothladder_plan_message(const uint8_t *options, size_t options_length, size_t limit, const uint32_t *plan", "brothladder_plan_message(const uint8_t *options, size_t options_length, size_t limit, const uint8_t *plan")}, ["header"]),
     ("two members exchanged in the header", {HEADER: lifetimes[HEADER]}, ["header", "layout"]),
     ("two members exchanged in the source", {PREFIX: lifetimes[PREFIX]}, ["header"]),
     ("the indexes of M and O exchanged", {HEADER: fields("MANAGED", "OTHER")}, ["header"]),

@@ -80,9 +80,19 @@ FOUND = 20
 abbrev pub NONE : ℕ
 NONE = 21
 
+-- a plan that is accepted, or a message of one; one that is not; a plan that was made
+abbrev pub ACCEPTED : ℕ
+ACCEPTED = 22
+
+abbrev pub «NOT_ACCEPTED» : ℕ
+«NOT_ACCEPTED» = 23
+
+abbrev pub PLANNED : ℕ
+PLANNED = 24
+
 -- all of them
 abbrev pub answers : List ℕ
-answers = REFUSED ∷ KNOWN ∷ UNKNOWN ∷ VALID ∷ INVALID ∷ OPTION ∷ END ∷ STOPPED ∷ RECEIVED ∷ WRITTEN ∷ PREFIX ∷ CHAIN ∷ ROUTE ∷ IGNORED ∷ SERVERS ∷ PREFERENCE ∷ SUM ∷ UPDATED ∷ INDEXED ∷ FOUND ∷ NONE ∷ []
+answers = REFUSED ∷ KNOWN ∷ UNKNOWN ∷ VALID ∷ INVALID ∷ OPTION ∷ END ∷ STOPPED ∷ RECEIVED ∷ WRITTEN ∷ PREFIX ∷ CHAIN ∷ ROUTE ∷ IGNORED ∷ SERVERS ∷ PREFERENCE ∷ SUM ∷ UPDATED ∷ INDEXED ∷ FOUND ∷ NONE ∷ ACCEPTED ∷ «NOT_ACCEPTED» ∷ PLANNED ∷ []
 
 -- each number of a list above the one before it, the first above n: then no two are alike, and none is n
 abbrev pub rising : ℕ → List ℕ → Bool

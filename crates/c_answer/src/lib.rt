@@ -42,3 +42,9 @@ pub const INDEXED: u32 = 19;
 pub const FOUND: u32 = 20;
 
 pub const NONE: u32 = 21;
+
+pub const ACCEPTED: u32 = 22;
+
+pub const NOT_ACCEPTED: u32 = 23;
+
+pub const PLANNED: u32 = 24;

@@ -10,7 +10,7 @@ use lib.ListN.{getD, length}
 use Rattle.paper.specs.Paper.{Paper}
 use Rattle.paper.proofs.Lossless.{lossless}
 use Rattle.refusal.specs.declared.Refusal.{Refusal}
-use Rattle.refusal.specs.declared.Refusal.the-variants.{ShortPacket, LongPacket, LongPayload, ShortFixedPart, UnexpectedSize, ZeroLength, UnexpectedEndOfSlice, UnexpectedHeader, ShortOutput, KnownPair, NotReceived, NoMark, LongRecord, CaptureEnds, ShortQuote, QuoteVersion, DeepQuote, LongRoutePrefix, NoWord, ManyOptions, FarOffset, OtherIndex}
+use Rattle.refusal.specs.declared.Refusal.the-variants.{ShortPacket, LongPacket, LongPayload, ShortFixedPart, UnexpectedSize, ZeroLength, UnexpectedEndOfSlice, UnexpectedHeader, ShortOutput, KnownPair, NotReceived, NoMark, LongRecord, CaptureEnds, ShortQuote, QuoteVersion, DeepQuote, LongRoutePrefix, NoWord, ManyOptions, NoPlan, FarOffset, OtherIndex}
 use Rattle.refusal.specs.Table.{values}
 use Rattle.refusal.specs.Paper.{refusal, slots}
 
@@ -36,8 +36,9 @@ refusalOf p =
     (cond (eqb (p .number) 18) (LongRoutePrefix (getD (p .values) 0 0))
     (cond (eqb (p .number) 19) (NoWord (getD (p .values) 0 0))
     (cond (eqb (p .number) 20) ManyOptions
+    (cond (eqb (p .number) 21) NoPlan
     (cond (eqb (p .number) 22) FarOffset
-    OtherIndex)))))))))))))))))))))
+    OtherIndex))))))))))))))))))))))
 
 pub refusal-back : (r : Refusal) → refusalOf (refusal r) ≡ r
 refusal-back (ShortPacket a b) = refl
@@ -60,6 +61,7 @@ refusal-back (DeepQuote a) = refl
 refusal-back (LongRoutePrefix a) = refl
 refusal-back (NoWord a) = refl
 refusal-back ManyOptions = refl
+refusal-back NoPlan = refl
 refusal-back FarOffset = refl
 refusal-back OtherIndex = refl
 
@@ -85,6 +87,7 @@ refusal-numbered (DeepQuote a) = refl
 refusal-numbered (LongRoutePrefix a) = refl
 refusal-numbered (NoWord a) = refl
 refusal-numbered ManyOptions = refl
+refusal-numbered NoPlan = refl
 refusal-numbered FarOffset = refl
 refusal-numbered OtherIndex = refl
 
@@ -109,6 +112,7 @@ few (DeepQuote a) = lit≤ tt
 few (LongRoutePrefix a) = lit≤ tt
 few (NoWord a) = lit≤ tt
 few ManyOptions = lit≤ tt
+few NoPlan = lit≤ tt
 few FarOffset = lit≤ tt
 few OtherIndex = lit≤ tt
 

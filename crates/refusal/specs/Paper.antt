@@ -1,4 +1,4 @@
--- A refusal on paper: its number (docs/RULES.md N1 to N20, N22 and N23) and the values that it carries.
+-- A refusal on paper: its number (docs/RULES.md N1 to N23) and the values that it carries.
 -- Assumes nothing.
 use Prim.Native.Nat.{ℕ}
 use mathlib.Core.List.{List, [], _∷_}

@@ -1,9 +1,9 @@
--- docs/RULES.md N1 to N20, N22 and N23: the number of each refusal and the values that it carries, in this order.
+-- docs/RULES.md N1 to N23: the number of each refusal and the values that it carries, in this order.
 -- Assumes nothing.
 use Prim.Native.Nat.{ℕ}
 use mathlib.Core.List.{List, [], _∷_}
 use Rattle.refusal.specs.declared.Refusal.{Refusal}
-use Rattle.refusal.specs.declared.Refusal.the-variants.{ShortPacket, LongPacket, LongPayload, ShortFixedPart, UnexpectedSize, ZeroLength, UnexpectedEndOfSlice, UnexpectedHeader, ShortOutput, KnownPair, NotReceived, NoMark, LongRecord, CaptureEnds, ShortQuote, QuoteVersion, DeepQuote, LongRoutePrefix, NoWord, ManyOptions, FarOffset, OtherIndex}
+use Rattle.refusal.specs.declared.Refusal.the-variants.{ShortPacket, LongPacket, LongPayload, ShortFixedPart, UnexpectedSize, ZeroLength, UnexpectedEndOfSlice, UnexpectedHeader, ShortOutput, KnownPair, NotReceived, NoMark, LongRecord, CaptureEnds, ShortQuote, QuoteVersion, DeepQuote, LongRoutePrefix, NoWord, ManyOptions, NoPlan, FarOffset, OtherIndex}
 
 abbrev pub number : Refusal → ℕ
 number (ShortPacket a b) = 1
@@ -26,6 +26,7 @@ number (DeepQuote a) = 17
 number (LongRoutePrefix a) = 18
 number (NoWord a) = 19
 number ManyOptions = 20
+number NoPlan = 21
 number FarOffset = 22
 number OtherIndex = 23
 
@@ -50,5 +51,6 @@ values (DeepQuote a) = a ∷ []
 values (LongRoutePrefix a) = a ∷ []
 values (NoWord a) = a ∷ []
 values ManyOptions = []
+values NoPlan = []
 values FarOffset = []
 values OtherIndex = []

@@ -100,6 +100,9 @@ enum-told-2 c = search needs
 enum-told-3 : tie.Need-enum-told-3
 enum-told-3 c = search needs
 
+enum-told-4 : tie.Need-enum-told-4
+enum-told-4 c = search needs
+
 returns : tie.Need-returns
 returns c = rw (c .before .self .given .1)
 
@@ -166,6 +169,9 @@ returns-21 c = rw (c .enum-told2 .given .1)
 returns-22 : tie.Need-returns-22
 returns-22 c = rw (c .enum-told3 .given .1)
 
+returns-23 : tie.Need-returns-23
+returns-23 c = rw (c .enum-told4 .given .1)
+
 pub numbers-spec : {M : Type 1} → statement M
 numbers-spec =
     tie.close
@@ -202,6 +208,7 @@ numbers-spec =
     enum-told
     enum-told-2
     enum-told-3
+    enum-told-4
     returns
     returns-2
     returns-3
@@ -223,4 +230,5 @@ numbers-spec =
     returns-19
     returns-20
     returns-21
-    returns-22)
+    returns-22
+    returns-23)
