@@ -94,6 +94,7 @@ void cases(void);   /* the worked cases P1 to P13, every refusal, edges */
 void writes(void);  /* the packet writer */
 void forwards(void); /* packets that are passed on */
 void lengths(void); /* where a piece of the sum ends */
+void windows(void); /* what the checksum catches of real packets that were changed */
 void editions(void); /* what the second edition looks at, every number of an edition */
 void sums(void);    /* sums of several parts */
 void adders(void);  /* each wider sum and the wider verdict beside the plain ones, at every alignment */

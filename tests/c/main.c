@@ -18,6 +18,7 @@ int main(void) {
     sums();
     adders();
     updates();
+    windows();
     editions_compared();
     printf("%lu passed, %lu failed\n", passed, failed);
     return failed != 0 || passed == 0;

@@ -1,0 +1,4 @@
+pub mod Window
+pub mod Zeros
+pub mod Unseen
+pub mod Table
