@@ -9,7 +9,8 @@ from functools import lru_cache
 
 CALLS = ["decode", "verify", "receive", "step", "read_prefix", "read_route", "read_dns", "preference", "write", "write_clearing", "write_keeping", "chain",
          "sum", "sum_pseudo", "sum_push", "sum_join", "verify_by_fours", "updated_checksum", "change_word",
-         "index_build", "index_append", "index_first", "index_next", "check_plan", "plan", "plan_message", "version_5"]
+         "index_build", "index_append", "index_first", "index_next", "check_plan", "plan", "plan_message", "read_mtu", "read_link_layer_address",
+         "read_redirected_header", "read_message", "put_prefix", "put_mtu", "put_link_layer_address", "write_in_place", "write_in_place_clearing", "version_6"]
 AIM_CODE, AIM_STACK = 16 * 1024, {c: 2048 if c == "chain" else 512 for c in CALLS}
 # the functions that come back to themselves, and how often each is entered at most: a packet and eight levels have nine messages, and the ninth quote is
 # refused (docs/RULES.md Q11)

@@ -13,6 +13,7 @@ void check(int holds, const char *what, const char *detail) {
         return;
     }
     if (failed++ < 20) printf("FAILED: %s%s%s\n", what, *detail ? ": " : "", detail);
+    if (getenv("FIRST_FAILURE")) exit(1); /* tests/c/faults asks whether a mistake is seen, not how often */
 }
 
 void same(const char *what, uint64_t got, uint64_t wanted) {
@@ -46,20 +47,23 @@ uint8_t *lend(enum room room, enum side side, const uint8_t *bytes, size_t lengt
         }
         rooms[room].start = all + 4096;
     }
-    uint8_t *p = side == LOW ? rooms[room].start : rooms[room].start + ROOM_BYTES - length;
+    static const size_t into[] = {[LOW] = 0, [ODD] = 4096 + 1, [FOURTH] = 4096 + 4, [EIGHTH] = 4096 + 8};
+    uint8_t *p = side == HIGH ? rooms[room].start + ROOM_BYTES - length : rooms[room].start + into[side];
     if (length > 0) memcpy(p, bytes, length);
-    memset(side == LOW ? p + length : p - GUARD_BYTES, guard, GUARD_BYTES);
+    if (side != LOW) memset(p - GUARD_BYTES, guard, GUARD_BYTES);
+    if (side != HIGH) memset(p + length, guard, GUARD_BYTES);
     rooms[room].lent = p;
     rooms[room].length = length;
     rooms[room].side = side;
     return p;
 }
 
+const uint8_t *lent_bytes(enum room room) { return rooms[room].lent; }
+
 int stands(enum room room, const uint8_t *bytes, size_t length) {
-    const uint8_t *p = rooms[room].lent;
-    const uint8_t *g = rooms[room].side == LOW ? p + rooms[room].length : p - GUARD_BYTES;
+    const uint8_t *p = rooms[room].lent, *behind = p + rooms[room].length;
     for (size_t i = 0; i < GUARD_BYTES; i++)
-        if (g[i] != guard) return 0;
+        if ((rooms[room].side != LOW && p[i - GUARD_BYTES] != guard) || (rooms[room].side != HIGH && behind[i] != guard)) return 0;
     return length == rooms[room].length && (length == 0 || memcmp(p, bytes, length) == 0);
 }
 

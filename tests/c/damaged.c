@@ -47,8 +47,7 @@ size_t some_options(uint8_t *p) {
     return n;
 }
 
-/* A message in good order: mostly Neighbor Discovery, with the addresses that its type wants. */
-static size_t message(uint8_t *p, uint8_t *source, uint8_t *destination) {
+size_t some_message(uint8_t *p, uint8_t *source, uint8_t *destination) {
     static const uint8_t types[] = {133, 134, 135, 136, 137, 128, 1, 2};
     static const size_t fixed[] = {0, 8, 16, 16, 32, 5, 9, 0};
     uint32_t k = below(10);
@@ -175,7 +174,7 @@ void damaged(void) {
             any_address(source);
             any_address(destination);
         } else {
-            n = message(packet, source, destination);
+            n = some_message(packet, source, destination);
         }
         for (uint32_t k = below(3); k > 0; k--) n = damage(packet, n);
         if (n >= 8 && below(8)) {

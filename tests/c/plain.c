@@ -46,7 +46,7 @@ struct brothladder_head plain_decode(const uint8_t *packet, size_t length) {
     if ((h.refusal = bad_length(length, h.value)) != 0) return h;
     h.type = packet[0];
     h.code = packet[1];
-    h.checksum = number(packet + 2, 2);
+    h.checksum = (uint16_t)number(packet + 2, 2);
     h.bytes5to8 = number(packet + 4, 4);
     h.answer = packet[1] < codes(packet[0]) ? BROTHLADDER_KNOWN : BROTHLADDER_UNKNOWN;
     if (h.answer == BROTHLADDER_UNKNOWN) {
@@ -294,6 +294,83 @@ struct brothladder_prefix plain_prefix(const uint8_t *option, size_t length, siz
     memcpy(p.prefix, option + 16, 16);
     p.place = offset;
     return p;
+}
+
+/* O1 and O7: an MTU option. */
+struct brothladder_mtu plain_mtu(const uint8_t *option, size_t length, size_t offset) {
+    struct brothladder_mtu m;
+    memset(&m, 0, sizeof m);
+    m.answer = BROTHLADDER_REFUSED;
+    if (far(offset, length)) return m.refusal = 22, m;
+    m.value[0] = 5;
+    if (length != 8) return m.value[1] = 8, m.value[2] = length, m.value[3] = offset, m.refusal = 5, m;
+    if (option[0] != 5 || option[1] != 1)
+        return m.value[1] = option[0], m.value[2] = 1, m.value[3] = option[1], m.value[4] = offset, m.refusal = 8, m;
+    m.value[0] = 0;
+    m.answer = BROTHLADDER_MTU;
+    m.kind = 5;
+    m.mtu = number(option + 4, 4);
+    m.place = offset;
+    return m;
+}
+
+/* O2 and O8: an option of a type, whose bytes are those from a place on. */
+static struct brothladder_bytes option_bytes(uint8_t type, size_t from, const uint8_t *option, size_t length, size_t offset) {
+    struct brothladder_bytes b;
+    memset(&b, 0, sizeof b);
+    b.answer = BROTHLADDER_REFUSED;
+    if (far(offset, length)) return b.refusal = 22, b;
+    b.value[0] = type;
+    if (length < 8) return b.value[1] = 8, b.value[2] = length, b.value[3] = offset, b.refusal = 5, b;
+    if (option[0] != type) return b.value[1] = option[0], b.value[2] = b.value[3] = option[1], b.value[4] = offset, b.refusal = 8, b;
+    if (option[1] == 0) return b.value[1] = offset, b.refusal = 6, b;
+    if (length != 8 * (size_t)option[1]) return b.value[1] = 8 * (size_t)option[1], b.value[2] = length, b.value[3] = offset, b.refusal = 5, b;
+    b.value[0] = 0;
+    b.answer = BROTHLADDER_BYTES;
+    b.at = from;
+    b.length = length - from;
+    b.place = offset;
+    return b;
+}
+
+struct brothladder_bytes plain_link_layer_address(const uint8_t *option, size_t length, size_t offset, uint32_t kind) {
+    return option_bytes(kind == 2 ? 2 : 1, 2, option, length, offset);
+}
+
+struct brothladder_bytes plain_redirected_header(const uint8_t *option, size_t length, size_t offset) {
+    return option_bytes(4, 8, option, length, offset);
+}
+
+/* K3, K5 and K6: a packet's fixed part. */
+struct brothladder_message plain_message(const uint8_t *packet, size_t length) {
+    struct brothladder_message m;
+    memset(&m, 0, sizeof m);
+    m.answer = BROTHLADDER_REFUSED;
+    if ((m.refusal = bad_length(length, m.value)) != 0) return m;
+    int type = packet[1] < codes(packet[0]) ? packet[0] : 0;
+    size_t fixed = fixed_part(type);
+    if (length - 8 < fixed) return m.value[0] = fixed, m.value[1] = length - 8, m.refusal = 4, m;
+    m.answer = BROTHLADDER_MESSAGE;
+    m.kind = (uint32_t)type;
+    m.fixed_length = (uint32_t)fixed;
+    if (type == 134) m.reachable_time = number(packet + 8, 4), m.retrans_timer = number(packet + 12, 4);
+    if (type == 135 || type == 136 || type == 137) m.target_at = 8;
+    if (type == 137) m.destination_at = 24;
+    m.options_at = neighbor_discovery(type) ? 8 + fixed : length;
+    m.options_length = length - m.options_at;
+    return m;
+}
+
+/* T6: bytes at a place, all or none. */
+struct brothladder_written plain_put(const uint8_t *option, size_t length, uint8_t *out, size_t out_length, size_t at) {
+    struct brothladder_written w;
+    memset(&w, 0, sizeof w);
+    w.answer = BROTHLADDER_REFUSED;
+    if (at > out_length || out_length - at < length) return w.value[0] = length, w.refusal = 9, w;
+    memcpy(out + at, option, length);
+    w.answer = BROTHLADDER_WRITTEN;
+    w.length = at + length;
+    return w;
 }
 
 /* Q10: beside a refusal the chain is all 0. */

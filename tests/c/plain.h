@@ -27,6 +27,11 @@ struct brothladder_planned plain_plan(const uint8_t *options, size_t length, siz
                                       uint32_t edition);
 struct brothladder_part plain_plan_message(const uint8_t *options, size_t length, size_t limit, const uint32_t *plan, size_t plan_length,
                                            size_t i, uint32_t edition);
+struct brothladder_mtu plain_mtu(const uint8_t *option, size_t length, size_t offset);
+struct brothladder_bytes plain_link_layer_address(const uint8_t *option, size_t length, size_t offset, uint32_t kind);
+struct brothladder_bytes plain_redirected_header(const uint8_t *option, size_t length, size_t offset);
+struct brothladder_message plain_message(const uint8_t *packet, size_t length);
+struct brothladder_written plain_put(const uint8_t *option, size_t length, uint8_t *out, size_t out_length, size_t at);
 
 /* the checksum that a packet's field should have */
 unsigned plain_checksum(const uint8_t *packet, size_t length, const uint8_t *source, const uint8_t *destination);

@@ -39,7 +39,7 @@ CASES = [
     ("a file of a crate whose other file is listed", "crates/replay/src/walk.rt writes, and is not listed", {"crates/replay/src/walk.rt": behind("\nfn f(h: Icmpv6Header) { h.to_bytes(); }\n")}),
     ("a head whose type is not seen", "crates/replay/src/walk.rt writes, and is not listed", {"crates/replay/src/walk.rt": behind("\nfn f() { g().to_bytes(); }\n")}),
     ("a listed function that tries no other name", f"{SENDER}: is_told_apart is listed, and writes by no other name", {SENDER: instead("match write_packet(full,", "match write_packet_clearing(full,")}),
-    ("a listed file that writes nothing", "README.md is listed, and writes nothing", {"README.md": instead("brothladder_write(h.type", "brothladder_wrote(h.type")}),
+    ("a listed file that writes nothing", "docs/C.md is listed, and writes nothing", {"docs/C.md": instead("brothladder_write(h.type", "brothladder_wrote(h.type")}),
     ("a comment", None, {EXAMPLE: behind("/* brothladder_write( */ // brothladder_write(\n"), "crates/dump/src/main.rt": behind("// writer::write_packet()\n")}),
     ("the bytes of another type", None, {"crates/replay/src/walk.rt": behind("\nfn f(h: NdpOptionHeader) { let g = h; g.to_bytes(); }\n")}),
 ]

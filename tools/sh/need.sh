@@ -30,5 +30,8 @@ emulated() {
     ${limit:+timeout "$limit"} "$@"
 }
 
-# built PROGRAM..: a program that `rt` built, run with the toolchain's loader and libraries
-built() { emulated "$(toolchain)/lib/ld-linux-x86-64.so.2" --library-path "$(toolchain)/lib" "$@"; }
+# built PROGRAM..: a program that `rt` built, run with the toolchain's loader and libraries; with the system's where there is no toolchain
+built() {
+    if ! command -v rt >/dev/null 2>&1; then "$@"; return; fi
+    emulated "$(toolchain)/lib/ld-linux-x86-64.so.2" --library-path "$(toolchain)/lib" "$@"
+}

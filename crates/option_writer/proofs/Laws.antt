@@ -35,9 +35,9 @@ use Rattle.prefix_information.specs.Prefix.{bytesOf}
 use Rattle.option_writer.specs.Options.{mtuBytes, linkLayerBytes}
 
 -- what putting some bytes promises, said of the option that they are
-pub put-as : {p : Paper} {left : List ℕ} (out b o : List ℕ) (n : ℕ) → b ≡ o → length b ≡ n → p ≡ roomFor (length b) out 0 → left ≡ leaves (roomFor (length b) out 0) out 0 b
-    → (p ≡ roomFor n out 0) × (left ≡ leaves (roomFor n out 0) out 0 o)
-put-as out b o n e l p q = rw (← l, ← e) (p, q)
+pub put-as : {p : Paper} {left : List ℕ} (out : List ℕ) (at : ℕ) (b o : List ℕ) (n : ℕ) → b ≡ o → length b ≡ n → p ≡ roomFor (length b) out at → left ≡ leaves (roomFor (length b) out at) out at b
+    → (p ≡ roomFor n out at) × (left ≡ leaves (roomFor n out at) out at o)
+put-as out at b o n e l p q = rw (← l, ← e) (p, q)
 
 -- a list of six is its elements
 pub six : (a : List ℕ) → length a ≡ 6 → getD a 0 0 ∷ getD a 1 0 ∷ getD a 2 0 ∷ getD a 3 0 ∷ getD a 4 0 ∷ getD a 5 0 ∷ [] ≡ a
