@@ -112,9 +112,9 @@ extern "C" {
 #define BROTHLADDER_UPDATED 18u /* updated_checksum, change_word: the checksum field after a word changed */
 #define BROTHLADDER_INDEXED 19u /* index build, append: the index is that of the list */
 #define BROTHLADDER_FOUND 20u   /* index first, next: the place of an option */
-#define BROTHLADDER_NONE 21u    /* index first, next: no entry is such a one */
+#define BROTHLADDER_NONE 21u    /* index first, next: there is no such entry */
 #define BROTHLADDER_ACCEPTED 22u /* check plan, plan message: the plan is accepted, and has this message */
-#define BROTHLADDER_NOT_ACCEPTED 23u /* check plan, plan message: it is not, or has no such message. Do not send by it */
+#define BROTHLADDER_NOT_ACCEPTED 23u /* check plan, plan message: the plan is not accepted, or has no such message: do not send by it */
 #define BROTHLADDER_PLANNED 24u /* plan: the counts are in `plan` */
 
 /* Values of `refusal`, which says why a call refused; 0 if it did not. `value` has the numbers that go with it, 0 past the last. The
@@ -544,7 +544,8 @@ struct brothladder_indexed brothladder_index_build(const uint8_t *options, size_
  * edition. What is then there is what a build of the whole list would leave.
  * Refusals, in this order: those of the steps over the list; 23 if the index is not the one that the list builds, or there is no such
  * list or index in the buffers; those of the steps over `more`, with the places that its options would have in the list; 20; 9 with the
- * bytes of the whole list; 9 with 8 bytes for each entry. No bytes in `more` are appended without a change. */
+ * bytes of the whole list; 9 with 8 bytes for each entry. If `more` has no bytes, the answer is INDEXED and nothing
+ * changes. */
 BROTHLADDER_ANSWER
 struct brothladder_indexed brothladder_index_append(uint8_t *list, size_t list_length, size_t used, uint32_t *index,
                                                     size_t index_length, size_t entries, const uint8_t *more, size_t more_length,

@@ -109,7 +109,7 @@ fn enter(options: &[u8], offset: usize, index: &mut [u32], from: usize, edition:
                 c = next;
             }
             Step::End => return,
-            // None of these: whoever enters has counted the options, and nothing was refused.
+            // Never: whoever enters has counted the options, and nothing was refused.
             Step::Refused(_, _) => return,
             Step::Stopped => return,
         }
