@@ -1,167 +1,180 @@
-"""calls.py PAGE: the tables of what bench/calls measured, printed and written into PAGE between their marks. Run in target/bench_calls.
+"""calls.py PAGE: the tables of what bench/calls measured, printed and written into PAGE between their marks. Run in target/bench_calls. It fails where the
+library misses an aim of PAGE, and where a call takes more than 1.2 times what the best plain C does and PAGE does not say why.
 
 The stack of a call is read from the code: what a function pushes and reserves, the part below its stack pointer that it uses (the red zone of the
 x86-64 ABI), and the deepest of what it calls. No call is indirect, and none comes back to itself but those of CYCLE, which is tested; what is read of
 these is held to what a run was seen to write to (stack.txt)."""
 import re
 import sys
-from functools import lru_cache
+from functools import cached_property
 
-CALLS = ["decode", "verify", "receive", "step", "read_prefix", "read_route", "read_dns", "preference", "write", "write_clearing", "write_keeping", "chain",
-         "sum", "sum_pseudo", "sum_push", "sum_join", "verify_by_fours", "updated_checksum", "change_word",
-         "index_build", "index_append", "index_first", "index_next", "check_plan", "plan", "plan_message", "version_5"]
-AIM_CODE, AIM_STACK = 16 * 1024, {c: 2048 if c == "chain" else 512 for c in CALLS}
+SETS = {"library": "this library", "kernel": "for kernels", "O2": "gcc -O2", "O3": "gcc -O3", "clang": "clang -O3"}
+PLAIN = ["O2", "O3", "clang"]
+ORDER = ("decode verify verify_by_fours receive step read_message preference read_prefix read_mtu read_link_layer_address read_redirected_header read_route "
+         "read_dns chain write write_clearing write_keeping write_in_place write_in_place_clearing put_prefix put_mtu put_link_layer_address updated_checksum "
+         "change_word sum sum_pseudo sum_push sum_join index_build index_append index_first index_next plan check_plan plan_message").split()
+NEAR = 1.2  # of the best plain C
+AIM_ONE, AIM_HOST, HOST = 4096, 8192, "these and the eight readers"  # bytes of code and constants that a program links; the second of the library alone
 # the functions that come back to themselves, and how often each is entered at most: a packet and eight levels have nine messages, and the ninth quote is
 # refused (docs/RULES.md Q11)
 CYCLE = {"quotes::message": 9, "quotes::quote": 9}
-CHAINS = {56: "one level", 392: "eight levels", 104: "a redirect"}
+missed = []
+
 
 # ---- instructions
-names = {int(l.split(";")[0]): tuple(l.strip().split(";")[1:]) for l in open("names.txt")}
-counts = {}
-for line in open("counts.txt"):
-    who, length, insns, _, _ = map(int, line.split())
-    if who in names:
-        counts[names[who] + (length,)] = insns
-small, large, longest = sorted({k[3] for k in counts if k[2] != "chain"})
-sets = [s for s in dict.fromkeys(k[1] for k in names.values()) if s != "nothing"]
+def counts(name):
+    return {int(line.split()[0]): int(line.split()[2]) for line in open(f"{name}.counts")}
 
 
-def cost(edition, who, call, length):
-    # a call that does not walk is measured once; the two instructions of the empty call are its own; the loop of a walk is the caller's, and is counted
-    if (edition, who, call, length) not in counts:
-        return ""
-    return f'{counts[edition, who, call, length] - counts[edition, "nothing", call, length] + (0 if call == "walk" else 2):,}'
+def measured():
+    """Each line of the run: table, call, input, edition, and the instructions of each set. Of a call the two instructions of the call that does nothing
+    are its own; of a caller's loop all are counted."""
+    nothing, sets = counts("nothing"), {name: counts(name) for name in SETS}
+    for line in open("library.answers"):
+        number, table, call, on, edition, loop = line.split(";")[:6]
+        n = int(number)
+        yield table, call, on, edition, {name: of[n] - nothing[n] + (0 if loop == "1" else 2) for name, of in sets.items()}
 
 
-def title(call, length):
-    return call if call in ("decode", "prefix", "route", "servers", "preference", "updated checksum", "change word") else f"{call}, {CHAINS[length]}" if call == "chain" else f"{call}, {length:,}"
+def instructions(lines):
+    """The rows of a table, those of a call together."""
+    rows = ["| call | on | " + " | ".join(SETS.values()) + " | to the best C |", "|---|---|" + "---|" * (len(SETS) + 1)]
+    for _, call, on, _, told in sorted(lines, key=lambda line: ORDER.index(line[1])):
+        ratio = told["library"] / min(told[name] for name in PLAIN)
+        if ratio > NEAR and not re.search(rf"^\| [^|]*`{call}`[^|]* \| \S", reasons, re.M):
+            missed.append(f"{call}, {on}: {ratio:.2f} of the best plain C, and no reason is given")
+        cells = [f"{told[name]:,}" for name in SETS] + [f"**{ratio:.2f}**" if ratio > NEAR else f"{ratio:.2f}"]
+        rows.append(f"| `{call}` | {on} | " + " | ".join(cells) + " |")
+    return rows
 
 
-columns = [("decode", small), ("receive check", small), ("receive check", large), ("walk", small), ("walk", large), ("prefix", small)]
-columns += [(call, large) for call in ("route", "servers", "preference")]
-columns += [(call, n) for call in ("verify", "verify by fours") for n in (small, large, longest)]
-columns += [("updated checksum", small), ("change word", small)]
-columns += [(way, n) for way in ("write", "write clearing", "write keeping") for n in (small, large, longest)]
-columns += [("chain", n) for n in CHAINS]
-rows = ["| | " + " | ".join(title(c, n) for c, n in columns) + " |", "|---|" + "---|" * len(columns)]
-rows += [f"| {who}{', second edition' if edition == '2' else ''} | " + " | ".join(cost(edition, who, c, n) for c, n in columns) + " |" for edition in "12" for who in sets]
+# ---- code and stack
+class Archive:
+    """The code of an archive, each function by the object that it stands in and its section."""
 
-# ---- instructions of the sums
-measured = {int(l.split(";")[0]): tuple(l.strip().split(";")[1:]) for l in open("sums.names")}
-counted = {measured[int(l.split()[0])]: int(l.split()[2]) for l in open("sums.counts") if int(l.split()[0]) in measured}
-kinds_of_sums = list(dict.fromkeys(c for _, c in measured.values()))
-sum_rows = ["| | " + " | ".join(kinds_of_sums) + " |", "|---|" + "---|" * len(kinds_of_sums)]
-# of the last one the caller's own instructions are counted too
-sum_rows += [f"| {who} | " + " | ".join(f"{counted[who, c] - counted['nothing', c] + (0 if c == kinds_of_sums[-1] else 2):,}" for c in kinds_of_sums) + " |"
-             for who in dict.fromkeys(w for w, _ in measured.values()) if who != "nothing"]
+    def __init__(self, name):
+        self.name, self.code, object_, section = name, {}, "", None
+        self.elf = open(f"{name}.elf").read()
+        for line in open(f"{name}.dis"):
+            if m := re.match(r"(\S+):\s+file format", line):
+                object_ = m[1]
+            elif m := re.match(r"Disassembly of section \.text\.?(.*):", line):
+                section = object_, m[1]
+                self.code[section] = []
+            elif section and (m := re.match(r"\s+([0-9a-f]+):\s+(.*)", line)):
+                self.code[section].append((int(m[1], 16), m[2]))
+        self.known = {}
 
-# ---- the index: a lookup of an option of 64 units and a walk to it, a build of a list and a walk to its end
-index_names = dict(l.strip().split(";") for l in open("index_names.txt"))
-index = {}
-for line in open("index_counts.txt"):
-    what, which, insns, _, _ = map(int, line.split())
-    index[index_names[str(what)], which] = insns
-placed = [103, 164]  # the 3rd and the 64th of the units, by their types
-listed = sorted(n for what, n in index if what == "build")
-index_rows = ["| | the 3rd of 64 options | the 64th | " + " | ".join(f"a list of {n}" for n in listed) + " |", "|---|" + "---|" * (2 + len(listed))]
-for what in ("first", "next", "walk to it", "build", "walk to END", "append of one"):
-    loop = what.startswith("walk")
-    cells = [index.get((what, n)) for n in placed + listed]
-    index_rows.append(f"| {what} | " + " | ".join("" if c is None else f"{c - index['nothing', n if n in listed else listed[-1]] + (0 if loop else 2):,}" for c, n in zip(cells, placed + listed)) + " |")
+    @cached_property
+    def uses(self):
+        return {f: self.called(f) for f in self.code}
 
-# ---- instructions of the calls over a plan
-measured = {int(l.split(";")[0]): tuple(l.strip().split(";")[1:]) for l in open("split.names")}
-counted = {measured[int(l.split()[0])]: int(l.split()[2]) for l in open("split.counts") if int(l.split()[0]) in measured}
-kinds_of_calls = list(dict.fromkeys(c for _, c in measured.values()))
-split_rows = ["| | " + " | ".join(kinds_of_calls) + " |", "|---|" + "---|" * len(kinds_of_calls)]
-split_rows += [f"| {who} | " + " | ".join(f"{counted[who, c] - counted['nothing', c] + 2:,}" for c in kinds_of_calls) + " |"
-               for who in dict.fromkeys(w for w, _ in measured.values()) if who != "nothing"]
+    def called(self, f):
+        found = set()
+        for _, text in self.code[f]:
+            assert not re.match(r"(call|jmp)\s+\*(?!%r)", text) and not re.match(r"call\s+\*", text), f"{f} calls through a pointer"
+            if target := re.search(r"R_X86_64_PLT32\s+(?:\.text\.)?(\S+?)[-+]0x\w+$", text):
+                found.add((f[0], target[1]))
+            elif re.match(r"call\s", text):  # without a relocation: within its own section, which is one function
+                assert int(text.split()[1], 16) == self.code[f][0][0], f"{f} calls into its middle"
+                found.add(f)
+        assert found <= set(self.code), (f, found - set(self.code))
+        return found
 
-# ---- code
-code, section = {}, None
-for line in open("library.dis"):
-    if m := re.match(r"Disassembly of section \.text\.?(.*):", line):
-        section = m.group(1)
-        code[section] = []
-    elif section is not None and (m := re.match(r"\s+([0-9a-f]+):\s+(.*)", line)):
-        code[section].append((int(m.group(1), 16), m.group(2)))
-sections = [(m.group(1), int(m.group(2), 16)) for m in re.finditer(r"\.text\.(\S+)\s+PROGBITS\s+\S+\s+\S+\s+(\w+)", open("library.elf").read())]
-sizes = dict(sections)
-tables = sum(int(m.group(1), 16) for m in re.finditer(r"\.rodata\S*\s+PROGBITS\s+\S+\s+\S+\s+(\w+)", open("library.elf").read()))
-uses = {}
-for f, lines in code.items():
-    called = set()
-    for i, (_, text) in enumerate(lines):
-        assert not re.match(r"(call|jmp)\s+\*(?!%r)", text) and not re.match(r"call\s+\*", text), f"{f} calls through a pointer"
-        target = re.search(r"R_X86_64_PLT32\s+(?:\.text\.)?(\S+?)[-+]0x\w+$", text)
-        if target:
-            called.add(target.group(1))
-        elif re.match(r"call\s", text):  # without a relocation: within its own section, which is one function
-            assert int(text.split()[1], 16) == lines[0][0], f"{f} calls into its middle"
-            called.add(f)
-    uses[f] = called
-    assert called <= set(code), (f, called - set(code))
+    def frame(self, f):
+        """What a function pushes and reserves, and how far it goes below its stack pointer."""
+        texts = [text for _, text in self.code[f]]
+        pushed = {t for t in texts if t.startswith("push")}
+        reserved = [int(m[1], 16) for t in texts if (m := re.match(r"sub\s+\$0x(\w+),%rsp", t))]
+        reserved += [128 for t in texts if re.match(r"add\s+\$0xffffffffffffff80,%rsp", t)]  # which is a byte shorter
+        red = [int(m[1], 16) for t in texts if (m := re.search(r"-0x(\w+)\(%rsp", t))]
+        return 8 * len(pushed) + max(reserved, default=0), max(red, default=0)
 
+    def reached(self, f):
+        found, todo = {f}, [f]
+        while todo:
+            for g in self.uses[todo.pop()] - found:
+                found.add(g)
+                todo.append(g)
+        return found
 
-def frame(f):
-    pushed = {t for _, t in code[f] if t.startswith("push")}
-    reserved = [int(m.group(1), 16) for _, t in code[f] if (m := re.match(r"sub\s+\$0x(\w+),%rsp", t))]
-    reserved += [128 for _, t in code[f] if re.match(r"add\s+\$0xffffffffffffff80,%rsp", t)]  # which is a byte shorter
-    red = [int(m.group(1), 16) for _, t in code[f] if (m := re.search(r"-0x(\w+)\(%rsp", t))]
-    return 8 * len(pushed) + max(reserved, default=0), max(red, default=0)
+    def depth(self, f):
+        """With the address to return to; of a cycle, every function as often as it is entered, and then the deepest of what is called from it."""
+        if f not in self.known:
+            own = {g for g in self.reached(f) if f in self.reached(g)}
+            assert {g[1] for g in own} <= set(CYCLE) or own == {f} and f not in self.uses[f], f"{sorted(own)} come back to themselves"
+            below = [self.frame(g)[1] for g in own] + [self.depth(h) for g in own for h in self.uses[g] - own]
+            self.known[f] = sum(CYCLE.get(g[1], 1) * (8 + self.frame(g)[0]) for g in own) + max(below)
+        return self.known[f]
 
+    def stack(self, call):
+        return next(self.depth(f) for f in self.code if f[1] == call)
 
-@lru_cache(None)
-def reached(f):
-    found, todo = {f}, [f]
-    while todo:
-        for g in uses[todo.pop()] - found:
-            found.add(g)
-            todo.append(g)
-    return frozenset(found)
+    @cached_property
+    def links(self):
+        """What a program links that makes a call, or several: bytes of code and of constants."""
+        return {name: (int(code), int(constants)) for name, code, constants in (line.strip().split(";") for line in open(f"{self.name}.links"))}
+
+    def relocations(self):
+        return sorted(set(re.findall(r"R_X86_64_\w+", self.elf)))
+
+    def asks(self):
+        return [line for line in open(f"{self.name}.asks") if " U " in line]
 
 
-def cycle(f):
-    """The functions that call f and are called by it: those of a cycle through it, or f alone."""
-    return frozenset(g for g in reached(f) if f in reached(g))
+def sizes(library, kernel):
+    rows = ["| | code | constants | stack | for kernels: code | constants | stack |", "|---|---|---|---|---|---|---|"]
+    ones = [f"`brothladder_{c}`" for c in ORDER]
+    for name in ones + [n for n in library.links if not n.startswith("`brothladder_")]:
+        cells = []
+        for archive in (library, kernel):
+            cells += [f"{n:,}" for n in archive.links[name]] + [f"{archive.stack(name.strip('`')):,}" if name in ones else ""]
+        rows.append(f"| {name} | " + " | ".join(cells) + " |")
+    return rows
 
 
-@lru_cache(None)
-def depth(f):
-    """With the address to return to; of a cycle, every function as often as it is entered, and then the deepest of what is called from it."""
-    own = cycle(f)
-    assert own <= set(CYCLE) or own == {f} and f not in uses[f], f"{sorted(own)} come back to themselves"
-    below = [frame(g)[1] for g in own] + [depth(h) for g in own for h in uses[g] - own]
-    return sum(CYCLE.get(g, 1) * (8 + frame(g)[0]) for g in own) + max(below)
+def notes(library, kernel):
+    seen = [tuple(map(int, line.split())) for line in open("stack.txt")]
+    chain = library.stack("brothladder_chain")
+    assert all(used <= chain for used, _ in seen), f"the chain was seen to write to {max(seen)[0]} bytes of stack, and its code says {chain}"
+    xmm = sum("%xmm" in text for lines in library.code.values() for _, text in lines)
+    red = sorted({f[1] for f in library.code if library.frame(f)[1]})
+    inner = sorted(f for f in library.code if f[1] in CYCLE)
+    plain = ", ".join(f"{SETS[name]} {int(n):,}" for name, n in (line.split() for line in open("plain.sizes")))
+    return (f"Symbols asked of the outside (`nm -u`): {len(library.asks() + kernel.asks()) or 'none'}. Relocations: {', '.join(library.relocations())}; for "
+            f"kernels {', '.join(kernel.relocations())}. Writable data: none. Instructions on the registers xmm0 to xmm15: {xmm}. Functions that use the red "
+            f"zone: {', '.join('`' + f + '`' for f in red) or 'none'}. Of `brothladder_chain` "
+            f"{' and '.join(f'`{f[1]}` takes {8 + library.frame(f)[0]} bytes' for f in inner)} for each message, nine at most; a run was seen to write to "
+            f"{max(seen)[0]:,}. Plain C, code and constants of all calls together: {plain}.")
 
 
-whole = sum(size for _, size in sections)  # what two objects share stands in both
-size_rows = ["| call | its own code | with all that it calls | stack |", "|---|---|---|---|"]
-exported = ["brothladder_" + c for c in CALLS if "brothladder_" + c in sizes]
-for f in exported:
-    size_rows.append(f"| `{f}` | {sizes[f]:,} | {sum(sizes[g] for g in reached(f)):,} | {depth(f):,} |")
-size_rows.append(f"| the whole library | {whole:,} | and {tables:,} of constants and jump tables | {max(depth(f) for f in exported):,} |")
-asks = [l for l in open("library.asks") if " U " in l]
-kinds = sorted(set(re.findall(r"R_X86_64_\w+", open("library.elf").read())))
-seen = [tuple(map(int, l.split())) for l in open("stack.txt")]
-chain = depth("brothladder_chain")
-assert all(used <= chain for used, _ in seen), f"the chain was seen to write to {max(seen)[0]} bytes of stack, and its code says {chain}"
-xmm = sum("%xmm" in t for lines in code.values() for _, t in lines)
-red = sorted(f for f in code if frame(f)[1])
-inner = sorted(f for f in code if f in CYCLE)
-plain = ", ".join(f"{t} {n}" for t, n in (l.split() for l in open("plain.sizes")))
-notes = (f"Symbols asked of the outside (`nm -u`): {len(asks) or 'none'}. Relocations: {', '.join(kinds)}. Writable data: none. Instructions on the "
-         f"registers xmm0 to xmm15: {xmm}. Functions that use the red zone: {', '.join('`' + f + '`' for f in red) or 'none'}. "
-         f"Of `brothladder_chain` {' and '.join(f'`{f}` takes {8 + frame(f)[0]} bytes' for f in inner)} for each message, nine at most; a run was seen to "
-         f"write to {max(seen)[0]:,}. Plain C, code and constants together: {plain}.")
+def aims(library, kernel):
+    if sum(library.links[HOST]) >= AIM_HOST:
+        missed.append(f"{HOST} have {sum(library.links[HOST]):,} bytes")
+    for archive in (library, kernel):
+        ones = {c: sum(archive.links[f"`brothladder_{c}`"]) for c in ORDER}
+        missed.extend(f"{archive.name}: {c} has {n:,} bytes" for c, n in ones.items() if n >= AIM_ONE)
+        missed.extend(f"{archive.name}: {c} takes {archive.stack('brothladder_' + c):,} bytes of stack" for c in ORDER
+                      if archive.stack("brothladder_" + c) >= (2048 if c == "chain" else 512))
+        missed.extend(f"{archive.name} asks for {line.split()[-1]}" for line in archive.asks())
+    missed.extend(f"relocation {r}" for r in library.relocations() if r not in ("R_X86_64_PC32", "R_X86_64_PLT32"))
+
 
 page = open(sys.argv[1]).read()
-for mark, table in (("instructions", rows), ("sums", sum_rows), ("index", index_rows), ("plans", split_rows), ("size", size_rows + ["", notes])):
+reasons = page.split("<!-- bench/calls looks for a reason from here -->\n")[1].split("<!-- reasons to here -->")[0]
+lines = list(measured())
+measured_calls = {call for _, call, *_ in lines}
+assert measured_calls == set(ORDER) == {line.strip().removeprefix("brothladder_") for line in open("calls.txt") if "version" not in line}, "a call is not measured"
+library, kernel = Archive("library"), Archive("kernel")
+tables = {name: instructions([line for line in lines if line[0] == name and line[3] == "1"]) for name in dict.fromkeys(line[0] for line in lines)}
+tables["second"] = instructions([line for line in lines if line[3] == "2"])
+tables["size"] = sizes(library, kernel) + ["", notes(library, kernel)]
+for mark, table in tables.items():
     start, end = f"<!-- bench/calls writes {mark} from here -->\n", f"<!-- {mark} to here -->\n"
     head, rest = page.split(start)
     page = head + start + "\n" + "\n".join(table) + "\n\n" + end + rest.split(end)[1]
     print("\n".join(table), end="\n\n")
 open(sys.argv[1], "w").write(page)
-if asks or whole + tables >= AIM_CODE or any(depth("brothladder_" + c) >= AIM_STACK[c] for c in CALLS) or set(kinds) - {"R_X86_64_PC32", "R_X86_64_PLT32"}:
-    sys.exit("the library misses an aim of docs/BENCHMARKS.md")
+aims(library, kernel)
+if missed:
+    sys.exit("\n".join(f"bench/calls: {x}" for x in missed))

@@ -4,20 +4,11 @@ import struct
 import subprocess
 import sys
 
+import records
+
 root, libraries = sys.argv[1:3]
 sizes = [1000, 10000, 100000]
-
-
-def records(capture):
-    found, at = [], 0
-    while at < len(capture):
-        end = at + 37 + int.from_bytes(capture[at + 35:at + 37], "big")
-        found.append(capture[at:end])
-        at = end
-    return found
-
-
-real = records(open(root + "/examples/advertisements.rec", "rb").read())
+real = records.shipped(root)
 
 
 def make(n):

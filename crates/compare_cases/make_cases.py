@@ -4,46 +4,20 @@
 stdin: pairs of records (docs/RULES.md C1), each packet an option list. The first record's hop limit is the edition, the second's how many numbers are
 lent to the report; the last four bytes of a source are the offset of its list. First lists made by hand, with a report lent one number short, exact and
 one more, in both editions; then lists by chance from a fixed seed.
-stdout: the answers that are wanted, worked out by `compared` below from the rules alone (area V): a line for each pair."""
+stdout: the answers that are wanted, worked out by `compared` below from the rules alone (area V; of the walk, tests/walk.py): a line for each pair."""
 import os
 import random
+import sys
 
 here = os.path.dirname(os.path.abspath(__file__))
-LIMIT = 4294967295
+sys.path.insert(0, here + "/../../tests")
+from walk import LONGEST, walk
 
 
-def size_fault(edition, option):
-    """What a type's own rule refuses an option for: number and values without the place, or None."""
-    kind, size = option[0], len(option)
-    if edition == 2 and kind == 24:
-        needed = 8 if option[2] == 0 else 16 if option[2] <= 64 else 24
-        return (5, 24, 24, size) if size > 24 else (18,) if option[2] > 128 else (5, 24, needed, size) if size < needed else None
-    if edition == 2 and kind == 25:
-        return None if size >= 24 and size // 8 % 2 else (5, 25, 24, size)
-    asked = {3: 32, 5: 8}.get(kind, size)
-    return None if size == asked else (5, kind, asked, size)
-
-
-def walk(edition, offset, data):
+def walked(edition, offset, data):
     """The options as (place in the list, bytes), or the refusal's number and values."""
-    found, at = [], 0
-    if offset + len(data) > LIMIT:
-        return None, (22,)
-    while at < len(data):
-        left = len(data) - at
-        if left < 2:
-            return None, (5, data[at], 2, left, offset + at)
-        size = 8 * data[at + 1]
-        if not size:
-            return None, (6, data[at], offset + at)
-        if left < size:
-            return None, (7, data[at], size, left, offset + at)
-        fault = size_fault(edition, data[at:at + size])
-        if fault:
-            return None, (*fault, offset + at)
-        found.append((at, data[at:at + size]))
-        at += size
-    return found, None
+    found, fault = walk(data, offset, edition)
+    return [(place - offset, data[place - offset:][:size]) for place, _, size in found], fault
 
 
 def entry(p, one, q, two):
@@ -60,8 +34,8 @@ def entry(p, one, q, two):
 def compared(edition, o, one, p, two, lent):
     """The answer as text, and the report's 24 numbers."""
     report = [7] * 24
-    first, fault = walk(edition, o, one)
-    second, fault_too = walk(edition, p, two)
+    first, fault = walked(edition, o, one)
+    second, fault_too = walked(edition, p, two)
     for which, why in ((1, fault), (2, fault_too)):
         if why:
             return " ".join(map(str, (why[0], "list", which, *why[1:]))), report
@@ -78,8 +52,8 @@ def compared(edition, o, one, p, two, lent):
 
 
 def run(edition, one, two):
-    first, fault = walk(edition, 0, one)
-    second, fault_too = walk(edition, 0, two)
+    first, fault = walked(edition, 0, one)
+    second, fault_too = walked(edition, 0, two)
     if fault or fault_too:
         return 0
     n = 0
@@ -115,7 +89,7 @@ for i, one in enumerate(lists):
             for lent in (24,) if exact is None or (i + j) % 3 else {max(exact - 1, 0), exact, exact + 1}:
                 case(edition, 16, one, 40, two, lent)
 # bytes that reach beyond the longest packet
-for o, p in ((LIMIT - 8, 0), (LIMIT - 7, 0), (0, LIMIT - 8), (0, LIMIT - 7), (LIMIT, LIMIT)):
+for o, p in ((LONGEST - 8, 0), (LONGEST - 7, 0), (0, LONGEST - 8), (0, LONGEST - 7), (LONGEST, LONGEST)):
     case(1, o, LLA, p, LLA, 24)
     case(1, o, LLA, p, LLA + LLA, 24)
     case(1, o, b"\1", p, b"\1", 24)

@@ -4,52 +4,24 @@
 stdin: commands (src/main.rt). First the cases of docs/RULES.md I15, each with the line that is wanted written beside it by hand, and the same with one
 less and one more: bytes, numbers lent, entries, options. Then every type from 0 to 255 in a list of 64 different types; 64 appends of one option and one
 build of the same list; and lists and appends by chance.
-stdout: the lines that are wanted. Those that are not written by hand are worked out by `Model` below, which shares nothing with the proved calls."""
+stdout: the lines that are wanted. Those that are not written by hand are worked out by `Model` below and tests/walk.py, which share nothing with the proved
+calls."""
 import os
 import random
 import struct
+import sys
 
 here = os.path.dirname(os.path.abspath(__file__))
-LIMIT, MOST, LIST, NUMBERS = 2**32 - 1, 64, 4096, 160
+sys.path.insert(0, here + "/../../tests")
+from walk import walk
+MOST, LIST, NUMBERS = 64, 4096, 160
 BUILD, APPEND, FIRST, NEXT, PUT, SET, SHOW, SHOW_LIST, ALL = range(1, 10)
 
 
-def misfit(edition, option, place):
-    """What a type's own rule refuses."""
-    kind, size = option[0], len(option)
-    if edition == 2 and kind == 24:
-        if size > 24:
-            return (5, 24, 24, size, place)
-        if option[2] > 128:
-            return (18, place)
-        needed = 8 + 8 * ((option[2] + 63) // 64)
-        return (5, 24, needed, size, place) if size < needed else None
-    if edition == 2 and kind == 25:
-        return (5, 25, 24, size, place) if size < 24 or size // 8 % 2 == 0 else None
-    asked = {3: 32, 5: 8}.get(kind, size)
-    return (5, kind, asked, size, place) if size != asked else None
-
-
-def walk(edition, s, offset):
+def entered(edition, s, offset):
     """The options as (type, place), and the refusal that ends them, None where they are clean."""
-    if offset + len(s) > LIMIT:
-        return [], (22,)
-    found, at = [], 0
-    while at < len(s):
-        left, place = len(s) - at, offset + at
-        if left < 2:
-            return found, (5, s[at], 2, left, place)
-        size = 8 * s[at + 1]
-        if size == 0:
-            return found, (6, s[at], place)
-        if left < size:
-            return found, (7, s[at], size, left, place)
-        bad = misfit(edition, s[at:at + size], place)
-        if bad:
-            return found, bad
-        found.append((s[at], place))
-        at += size
-    return found, None
+    found, bad = walk(s, offset, edition)
+    return [(kind, place) for place, kind, _ in found], bad
 
 
 class Model:
@@ -63,7 +35,7 @@ class Model:
         return [n for e in entries for n in e]
 
     def build(self, edition, numbers, options):
-        found, bad = walk(edition, options, 0)
+        found, bad = entered(edition, options, 0)
         if bad:
             return bad
         if len(found) > MOST:
@@ -76,12 +48,12 @@ class Model:
     def append(self, edition, room, used, numbers, entries, new):
         if used > room:
             return (23,)
-        own, bad = walk(edition, self.list[:used], 0)
+        own, bad = entered(edition, self.list[:used], 0)
         if bad:
             return bad
         if len(own) > MOST or entries != len(own) or numbers < 2 * entries or self.index[:2 * entries] != self.flat(own):
             return (23,)
-        more, bad = walk(edition, new, used)
+        more, bad = entered(edition, new, used)
         if bad:
             return bad
         if len(own) + len(more) > MOST:
@@ -256,7 +228,7 @@ for _ in range(150):
     for _ in range(chance.randrange(5)):
         new = by_chance(chance.choice((2, 4, 40)))
         room = used + len(new) + chance.choice((-1, 0, 1, 100))
-        numbers = min(NUMBERS, max(0, 2 * (entries + len(walk(edition, new, 0)[0])) + chance.choice((-2, -1, 0, 1, 9))))
+        numbers = min(NUMBERS, max(0, 2 * (entries + len(entered(edition, new, 0)[0])) + chance.choice((-2, -1, 0, 1, 9))))
         given = (used + chance.choice((0,) * 9 + (-8, 1)), entries + chance.choice((0,) * 9 + (-1, 1)))
         grown = m.do(APPEND, edition, min(LIST, max(0, room)), max(0, given[0]), numbers, max(0, given[1]), new)
         if isinstance(grown, list):

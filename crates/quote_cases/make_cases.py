@@ -3,7 +3,7 @@
 
 stdin: records (docs/RULES.md C1) whose packets quote others. First the table below, made by hand from RFC 4443, sections 3.1 to 3.4, RFC 4861,
 section 4.6.3, and RFC 8200, section 3: each rule of area Q at its boundary, both ways, with the answer that is wanted written beside it. Then packets
-whose answer is worked out by `chain` below, which shares nothing with the proved reader: every case of the table with one byte less and with one
+whose answer is worked out by `chain` below and tests/walk.py, which share nothing with the proved reader: every case of the table with one byte less and with one
 more, nests cut round each boundary, and the redirects and errors of CAPTURES/*.rec, real traffic.
 stdout: the answers that are wanted, a line for each record: 0, the kind of the outer message, and place, next header and kind of each level; or the
 refusal's number and values."""
@@ -14,31 +14,14 @@ import sys
 from ipaddress import IPv6Address
 
 here = os.path.dirname(os.path.abspath(__file__))
+sys.path.insert(0, here + "/../../tests")
+from walk import walk
 address = lambda text: IPv6Address(text).packed
 SOURCE, DESTINATION = address("fe80::1"), address("2001:db8::1")
 
 # how many codes a type lists, and the bytes between head and options of those that have a list
 CODES = {1: 7, 2: 1, 3: 2, 4: 11, 128: 1, 129: 1, 133: 1, 134: 1, 135: 1, 136: 1, 137: 1}
 FIXED = {133: 0, 134: 8, 135: 16, 136: 16, 137: 32}
-
-
-def walk(packet, at, end):
-    """The options from a place up to another as (type, place, bytes), and the refusal that ends them, None where they are clean."""
-    found = []
-    while at < end:
-        kind, left = packet[at], end - at
-        if left < 2:
-            return found, (5, kind, 2, left, at)
-        size = 8 * packet[at + 1]
-        if size == 0:
-            return found, (6, kind, at)
-        if left < size:
-            return found, (7, kind, size, left, at)
-        if size != {3: 32, 5: 8}.get(kind, size):
-            return found, (5, kind, {3: 32, 5: 8}[kind], size, at)
-        found.append((kind, at, size))
-        at += size
-    return found, None
 
 
 def chain(packet):
@@ -54,10 +37,10 @@ def chain(packet):
         elif kind in FIXED:
             if end - at - 8 < FIXED[kind]:
                 return 4, FIXED[kind], end - at - 8
-            options, refused = walk(packet, at + 8 + FIXED[kind], end)
+            options, refused = walk(packet[at + 8 + FIXED[kind]:end], at + 8 + FIXED[kind])
             if refused:
                 return refused
-            quoting = [(place, size) for type, place, size in options if type == 4]
+            quoting = [(place, size) for place, type, size in options if type == 4]
             if not quoting:
                 return tuple(told)
             at, end = quoting[0][0] + 8, sum(quoting[0])

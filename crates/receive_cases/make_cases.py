@@ -3,7 +3,7 @@
 
 stdin: records (docs/RULES.md C1). First the table below, made by hand from RFC 4861, sections 6.1.1, 6.1.2, 7.1.1, 7.1.2 and 8.1: each rule at its
 boundary, both ways, with the answer that is wanted written beside it. Then every record of CAPTURES/*.rec, real traffic, whose answer
-is worked out by `judge` below, which shares nothing with the proved check.
+is worked out by `judge` below and tests/walk.py, which share nothing with the proved check.
 stdout: the answers that are wanted, a line for each record."""
 import glob
 import os
@@ -12,6 +12,8 @@ import sys
 from ipaddress import IPv6Address
 
 here = os.path.dirname(os.path.abspath(__file__))
+sys.path.insert(0, here + "/../../tests")
+from walk import walk
 address = lambda text: IPv6Address(text).packed
 NOBODY, NEAR, FAR = "::", "fe80::1", "2001:db8::1"
 NODES, ROUTERS, ASKED = "ff02::1", "ff02::2", "ff02::1:ff00:1"
@@ -214,24 +216,6 @@ case(reason(7), ns(NODES, SOURCE_LINK), NOBODY, ASKED)
 
 # ---- real traffic
 
-def options_clean(options):
-    while options:
-        if len(options) < 2 or options[1] == 0 or len(options) < 8 * options[1]:
-            return False
-        if options[1] != {3: 4, 5: 1}.get(options[0], options[1]):
-            return False
-        options = options[8 * options[1]:]
-    return True
-
-
-def types_of(options):
-    found = set()
-    while options:
-        found.add(options[0])
-        options = options[8 * options[1]:]
-    return found
-
-
 def judge(hops, source, destination, packet):
     kind, unspecified = packet[0], source == bytes(16)
     valid = folded(source, destination, packet) == 65535
@@ -248,7 +232,8 @@ def judge(hops, source, destination, packet):
         return reason(3)
     if len(packet) < fixed:
         return reason(4)
-    if not options_clean(packet[fixed:]):
+    options, refused = walk(packet[fixed:])
+    if refused:
         return reason(5)
     if kind in (134, 137) and not local(source):
         return reason(6)
@@ -260,7 +245,7 @@ def judge(hops, source, destination, packet):
         return reason(7)
     if kind == 137 and (field[0] == 255 or not (local(target) or target == field)):
         return reason(7)
-    if kind in (133, 135) and unspecified and 1 in types_of(packet[fixed:]):
+    if kind in (133, 135) and unspecified and any(type == 1 for _, type, _ in options):
         return reason(8)
     return ACCEPTED
 

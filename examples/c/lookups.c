@@ -10,11 +10,6 @@ static const uint32_t edition = BROTHLADDER_EDITION_FIRST;
 /* Two numbers for each of 64 options, which are the most that an index has. */
 enum { NUMBERS = 128 };
 
-/* The MTU option has its number in the last four of its eight bytes (RFC 4861, section 4.6.4). */
-static void print_mtu(const uint8_t *option) {
-    printf("  mtu %lu\n", (unsigned long)option[4] << 24 | (unsigned long)option[5] << 16 | (unsigned long)option[6] << 8 | option[7]);
-}
-
 static void look_up(const uint8_t *options, size_t length, size_t offset) {
     uint32_t index[NUMBERS];
     struct brothladder_indexed x = brothladder_index_build(options, length, index, NUMBERS, edition);
@@ -24,7 +19,7 @@ static void look_up(const uint8_t *options, size_t length, size_t offset) {
     }
     printf("  %lu options\n", (unsigned long)x.entries);
     struct brothladder_found f = brothladder_index_first(index, NUMBERS, x.entries, BROTHLADDER_KIND_MTU);
-    if (f.answer == BROTHLADDER_FOUND) print_mtu(options + f.at);
+    if (f.answer == BROTHLADDER_FOUND) printf("  mtu %lu\n", (unsigned long)brothladder_read_mtu(options + f.at, 8, offset + f.at).mtu);
     f = brothladder_index_first(index, NUMBERS, x.entries, BROTHLADDER_KIND_PREFIX_INFORMATION);
     while (f.answer == BROTHLADDER_FOUND) {
         struct brothladder_stepped s = brothladder_step(options, length, offset, f.at, edition);
@@ -35,7 +30,8 @@ static void look_up(const uint8_t *options, size_t length, size_t offset) {
 }
 
 /* One message: the receive check, which reads the whole list, then the lookups. */
-static void handle(const struct message *m) {
+static void handle(unsigned long number, const struct message *m) {
+    printf("%lu ", number);
     struct brothladder_received r = brothladder_receive(m->packet, m->length, m->hop_limit, m->source, m->destination, edition);
     if (r.answer != BROTHLADDER_RECEIVED) {
         printf("refused %u\n", (unsigned)r.refusal);
@@ -50,18 +46,4 @@ static void handle(const struct message *m) {
     look_up(m->packet + r.options_at, r.options_length, r.options_at);
 }
 
-int main(int argc, char **argv) {
-    static struct message m;
-    FILE *capture = argc > 1 ? fopen(argv[1], "rb") : stdin;
-    int got;
-    if (capture == NULL) {
-        perror(argv[1]);
-        return 2;
-    }
-    for (unsigned long n = 1; (got = next_message(capture, &m)) == 1; n++) {
-        printf("%lu ", n);
-        handle(&m);
-    }
-    if (got < 0) fprintf(stderr, "lookups: the capture is cut short or no capture\n");
-    return got < 0 || fflush(stdout) != 0;
-}
+int main(int argc, char **argv) { return each_message("lookups", argc, argv, handle); }

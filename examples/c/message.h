@@ -1,4 +1,4 @@
-/* What the examples share: the messages of a capture, and how a prefix is printed.
+/* What the examples share: the messages of a capture, one after the other, and how a prefix is printed.
  *
  * A capture is a row of records: a mark, hop limit, source (16 bytes), destination (16), packet length (2, high byte first), packet. The mark is 49 36 of
  * a packet of up to 2,048 bytes, and 49 37 of a longer one, up to 9,000. */
@@ -30,6 +30,17 @@ static int next_message(FILE *capture, struct message *m) {
     /* each record has one form: the mark is that of the packet's length */
     if (m->length > LONGEST_PACKET || (m->length > LONGEST_SHORT) != (head[1] == 0x37)) return -1;
     return fread(m->packet, 1, m->length, capture) == m->length ? 1 : -1;
+}
+
+/* Hands each message of the capture that is named first, or of standard input, to `handle`, with its number from 1 on. Returns what the program NAME is to
+   return: 0 if the capture was read to its end. */
+static int each_message(const char *name, int argc, char **argv, void (*handle)(unsigned long number, const struct message *m)) {
+    static struct message m;
+    FILE *capture = argc > 1 ? fopen(argv[1], "rb") : stdin;
+    int got = -1;
+    for (unsigned long n = 1; capture != NULL && (got = next_message(capture, &m)) == 1; n++) handle(n, &m);
+    if (got < 0) fprintf(stderr, "%s: no capture, or one that is cut short\n", name);
+    return got < 0 || fflush(stdout) != 0;
 }
 
 static void print_prefix(const struct brothladder_prefix *p) {

@@ -40,8 +40,9 @@ static int note_options(const uint8_t *options, size_t length, size_t offset, st
 }
 
 /* One message: the receive check, then the walk, then the act. */
-static void handle(const struct message *m) {
+static void handle(unsigned long number, const struct message *m) {
     static struct noted noted;
+    printf("%lu ", number);
     struct brothladder_received r = brothladder_receive(m->packet, m->length, m->hop_limit, m->source, m->destination, edition);
     if (r.answer != BROTHLADDER_RECEIVED) {
         printf("refused %u", (unsigned)r.refusal);
@@ -62,18 +63,4 @@ static void handle(const struct message *m) {
     for (size_t i = 0; i < noted.count; i++) print_prefix(&noted.prefixes[i]);
 }
 
-int main(int argc, char **argv) {
-    static struct message m;
-    FILE *capture = argc > 1 ? fopen(argv[1], "rb") : stdin;
-    int got;
-    if (capture == NULL) {
-        perror(argv[1]);
-        return 2;
-    }
-    for (unsigned long n = 1; (got = next_message(capture, &m)) == 1; n++) {
-        printf("%lu ", n);
-        handle(&m);
-    }
-    if (got < 0) fprintf(stderr, "prefixes: the capture is cut short or no capture\n");
-    return got < 0 || fflush(stdout) != 0;
-}
+int main(int argc, char **argv) { return each_message("prefixes", argc, argv, handle); }

@@ -62,7 +62,7 @@ static void step_refuses(const char *what, struct brothladder_stepped s, size_t 
 }
 
 static void layout(void) {
-    same("head has no hole", sizeof(struct brothladder_head), 48 + 4 * 4 + 16);
+    same("head has no hole", sizeof(struct brothladder_head), 48 + 1 + 1 + 2 + 4 + 16);
     same("verified has no hole", sizeof(struct brothladder_verified), 48);
     same("stepped has no hole", sizeof(struct brothladder_stepped), 48 + 4 + 4 + 4 * sizeof(size_t));
     same("received has no hole", sizeof(struct brothladder_received), 48 + 2 * sizeof(size_t));
@@ -79,7 +79,7 @@ static void layout(void) {
         check(answers[i] != 0, "no answer is 0", "");
         for (size_t j = 0; j < i; j++) check(answers[i] != answers[j], "two answers differ", "");
     }
-    same("the version", brothladder_version_5(), BROTHLADDER_VERSION);
+    same("the version", brothladder_version_6(), BROTHLADDER_VERSION);
 }
 
 static void worked(uint32_t edition) {

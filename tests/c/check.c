@@ -4,6 +4,7 @@
 #include <stdlib.h>
 #include <string.h>
 #include <sys/mman.h>
+#include <unistd.h>
 
 unsigned long passed, failed;
 
@@ -13,6 +14,7 @@ void check(int holds, const char *what, const char *detail) {
         return;
     }
     if (failed++ < 20) printf("FAILED: %s%s%s\n", what, *detail ? ": " : "", detail);
+    if (getenv("FIRST_FAILURE")) exit(1); /* tests/c/faults asks whether a mistake is seen, not how often */
 }
 
 void same(const char *what, uint64_t got, uint64_t wanted) {
@@ -29,37 +31,61 @@ void same_answer(const char *what, const void *got, const void *wanted, size_t s
     check(i == size, what, detail);
 }
 
+/* A room is seen twice: `start` may be written, `shown` may only be read, and both stand between two pages that cannot be touched. */
 static struct {
-    uint8_t *start, *lent;
+    uint8_t *start, *shown, *lent;
     size_t length;
     enum side side;
 } rooms[ROOMS];
 
-static const uint8_t guard = 0xa5;
+enum { PAGE = 4096 };
+static uint8_t guards[GUARD_BYTES];
+
+static uint8_t *view(int file, int may) {
+    uint8_t *all = mmap(NULL, ROOM_BYTES + 2 * PAGE, PROT_NONE, MAP_PRIVATE | MAP_ANONYMOUS, -1, 0);
+    if (all == MAP_FAILED || mmap(all + PAGE, ROOM_BYTES, may, MAP_SHARED | MAP_FIXED, file, 0) == MAP_FAILED) {
+        puts("no memory to lend");
+        exit(2);
+    }
+    return all + PAGE;
+}
+
+static void make_room(enum room room) {
+    int file = memfd_create("room", 0);
+    if (file < 0 || ftruncate(file, ROOM_BYTES)) {
+        puts("no memory to lend");
+        exit(2);
+    }
+    rooms[room].start = view(file, PROT_READ | PROT_WRITE);
+    rooms[room].shown = view(file, PROT_READ);
+    close(file);
+    memset(guards, 0xa5, sizeof guards);
+}
 
 uint8_t *lend(enum room room, enum side side, const uint8_t *bytes, size_t length) {
-    if (rooms[room].start == NULL) {
-        uint8_t *all = mmap(NULL, ROOM_BYTES + 2 * 4096, PROT_NONE, MAP_PRIVATE | MAP_ANONYMOUS, -1, 0);
-        if (all == MAP_FAILED || mprotect(all + 4096, ROOM_BYTES, PROT_READ | PROT_WRITE)) {
-            puts("no memory to lend");
-            exit(2);
-        }
-        rooms[room].start = all + 4096;
-    }
-    uint8_t *p = side == LOW ? rooms[room].start : rooms[room].start + ROOM_BYTES - length;
+    static const size_t into[] = {[LOW] = 0, [ODD] = PAGE + 1, [FOURTH] = PAGE + 4, [EIGHTH] = PAGE + 8};
+    if (rooms[room].start == NULL) make_room(room);
+    uint8_t *p = side == HIGH ? rooms[room].start + ROOM_BYTES - length : rooms[room].start + into[side];
     if (length > 0) memcpy(p, bytes, length);
-    memset(side == LOW ? p + length : p - GUARD_BYTES, guard, GUARD_BYTES);
+    if (side != LOW) memcpy(p - GUARD_BYTES, guards, GUARD_BYTES);
+    if (side != HIGH) memcpy(p + length, guards, GUARD_BYTES);
     rooms[room].lent = p;
     rooms[room].length = length;
     rooms[room].side = side;
     return p;
 }
 
+const uint8_t *lend_to_read(enum room room, enum side side, const uint8_t *bytes, size_t length) {
+    const uint8_t *p = lend(room, side, bytes, length);
+    return rooms[room].shown + (p - rooms[room].start);
+}
+
+const uint8_t *lent_bytes(enum room room) { return rooms[room].lent; }
+
 int stands(enum room room, const uint8_t *bytes, size_t length) {
     const uint8_t *p = rooms[room].lent;
-    const uint8_t *g = rooms[room].side == LOW ? p + rooms[room].length : p - GUARD_BYTES;
-    for (size_t i = 0; i < GUARD_BYTES; i++)
-        if (g[i] != guard) return 0;
+    if (rooms[room].side != LOW && memcmp(p - GUARD_BYTES, guards, GUARD_BYTES) != 0) return 0;
+    if (rooms[room].side != HIGH && memcmp(p + rooms[room].length, guards, GUARD_BYTES) != 0) return 0;
     return length == rooms[room].length && (length == 0 || memcmp(p, bytes, length) == 0);
 }
 

@@ -15,13 +15,20 @@ void same(const char *what, uint64_t got, uint64_t wanted);
 void same_answer(const char *what, const void *got, const void *wanted, size_t size);
 
 /* Room for one lent buffer, between two pages that cannot be touched: a byte read or written behind its end (or before its start,
-   for LOW) ends the program. The bytes on its other side are guards. */
-enum side { LOW, HIGH };
-enum room { PACKET, SOURCE, DESTINATION, OUT, ROOMS };
-enum { ROOM_BYTES = 17 * 4096, GUARD_BYTES = 64 };
+   for LOW) ends the program. The bytes on its other side are guards. In the middle, at an odd address, at one that 4 divides and 8 does not, or at one that
+   8 divides and 16 does not, guards are on both sides. */
+enum side { LOW, HIGH, ODD, FOURTH, EIGHTH };
+enum room { PACKET, SOURCE, DESTINATION, OUT, RESULT, ROOMS };
+enum { ROOM_BYTES = 18 * 4096, GUARD_BYTES = 64 };
 
 /* A copy of the bytes in a room, as something to lend. */
 uint8_t *lend(enum room room, enum side side, const uint8_t *bytes, size_t length);
+
+/* The same in memory that can only be read: a byte written anywhere in the room ends the program. */
+const uint8_t *lend_to_read(enum room room, enum side side, const uint8_t *bytes, size_t length);
+
+/* The bytes that were lent last in a room. */
+const uint8_t *lent_bytes(enum room room);
 
 /* Whether the guards of a room stand, and its lent bytes are these. */
 int stands(enum room room, const uint8_t *bytes, size_t length);
@@ -72,6 +79,11 @@ uint32_t some_edition(void);
 void both_editions(const uint8_t *options, size_t length, size_t offset);
 void editions_compared(void);
 
+/* Whether figures are printed too. */
+#ifndef REPORT
+#define REPORT 0
+#endif
+
 /* How many packets chance brings about. */
 #ifndef PACKETS
 #define PACKETS 100000
@@ -85,10 +97,27 @@ void write_again(const uint8_t *packet, size_t n, const uint8_t *source, const u
 void pass_on(const uint8_t *packet, size_t n, const uint8_t *source, const uint8_t *destination, uint32_t edition);
 void passed_on(void);
 
+/* A type that looks at the size of its options, or has a reader; and an option of a type by chance, mostly of a size that its rule takes: its length, which is
+   at most 40. */
+uint8_t some_type(void);
+size_t some_option(uint8_t type, uint8_t *p);
+
+/* Every option that the second edition looks at, and the types beside them: eleven numbers of units, every prefix length and every flags byte,
+   each lent and handed to `whole` with the same bytes; and for each prefix length, with the flags ff, the bytes to `other`, to lend as many as it wants. */
+enum { MOST_OPTION = 8 * 255 };
+void each_newer(void (*whole)(const uint8_t *lent, const uint8_t *bytes, size_t n), void (*other)(const uint8_t *bytes, size_t n));
+
 /* Up to four options in good order, but for some routes and servers, and bytes that are damaged; the length of what is there. */
 size_t some_options(uint8_t *p);
 size_t damage(uint8_t *p, size_t n);
 
+/* A message in good order: mostly Neighbor Discovery, with the addresses that its type wants. */
+size_t some_message(uint8_t *p, uint8_t *source, uint8_t *destination);
+
+void composed(void); /* bytes 4 to 7 put together and taken apart by the header's functions, beside the library; the texts */
+void placed(void);  /* each call at three places of memory, on a small stack, and the table of members */
+void every(void);   /* packets through every call, beside plain C; tests/c/fuzz runs more of them */
+void linear(void);  /* each call at three lengths, its instructions counted */
 void fields(void);  /* where each field of a head stands */
 void cases(void);   /* the worked cases P1 to P13, every refusal, edges */
 void writes(void);  /* the packet writer */
@@ -104,5 +133,6 @@ void joined(void);  /* option lists cut at every place */
 void damaged(void); /* 100,000 packets, random and damaged, beside plain.c */
 void indexes(void); /* the index beside the options, and lists that are grown */
 void splits(void);  /* plans: the worked cases of area Z, all small ones, and 100,000 by chance beside plain_plans.c */
+void parts(void);   /* the options that are read and put, the fixed parts, packets written in place */
 void quotes(void);  /* packets quoted in packets: the worked cases of area Q, and 100,000 nests beside plain.c */
 #endif

@@ -22,8 +22,13 @@ static void any_address(uint8_t *a) {
     for (int k = 0; k < 16; k++) a[k] = i < 9 ? addresses[i][k] : (uint8_t)chance();
 }
 
+uint8_t some_type(void) {
+    static const uint8_t types[] = {1, 2, 3, 4, 5, 24, 24, 25};
+    return types[below(8)];
+}
+
 /* How many units an option has, of a type that looks at them; for a route and for servers by chance as many as it must have. */
-static uint32_t some_units(uint32_t type) {
+static uint32_t some_units(uint8_t type) {
     switch (type) {
     case 3: return 4;
     case 5: return 1;
@@ -33,22 +38,22 @@ static uint32_t some_units(uint32_t type) {
     }
 }
 
+size_t some_option(uint8_t type, uint8_t *p) {
+    uint32_t units = some_units(type);
+    for (size_t i = 0; i < 8 * units; i++) p[i] = (uint8_t)chance();
+    p[0] = type;
+    p[1] = (uint8_t)units;
+    if (type == 24 && below(8)) p[2] = (uint8_t)below(units == 1 ? 1 : units == 2 ? 65 : 129);
+    return 8 * (size_t)units;
+}
+
 size_t some_options(uint8_t *p) {
     size_t n = 0;
-    for (uint32_t k = below(5); k > 0; k--) {
-        static const uint8_t types[] = {1, 2, 3, 4, 5, 24, 24, 25};
-        uint32_t type = below(6) ? types[below(8)] : below(256), units = some_units(type);
-        for (size_t i = 0; i < 8 * units; i++) p[n + i] = (uint8_t)chance();
-        p[n] = (uint8_t)type;
-        p[n + 1] = (uint8_t)units;
-        if (type == 24 && below(8)) p[n + 2] = (uint8_t)below(units == 1 ? 1 : units == 2 ? 65 : 129);
-        n += 8 * units;
-    }
+    for (uint32_t k = below(5); k > 0; k--) n += some_option(below(6) ? some_type() : (uint8_t)below(256), p + n);
     return n;
 }
 
-/* A message in good order: mostly Neighbor Discovery, with the addresses that its type wants. */
-static size_t message(uint8_t *p, uint8_t *source, uint8_t *destination) {
+size_t some_message(uint8_t *p, uint8_t *source, uint8_t *destination) {
     static const uint8_t types[] = {133, 134, 135, 136, 137, 128, 1, 2};
     static const size_t fixed[] = {0, 8, 16, 16, 32, 5, 9, 0};
     uint32_t k = below(10);
@@ -78,7 +83,7 @@ size_t damage(uint8_t *p, size_t n) {
 }
 
 enum { REFUSALS = 23 }; /* one more than the last number */
-static unsigned long seen[16], reasons[9], refusals[REFUSALS], kinds[26], first_alone;
+static unsigned long seen[16], reasons[9], refusals[REFUSALS], kinds[256], first_alone;
 
 void note(uint32_t answer, uint32_t refusal, uint64_t value) {
     seen[answer & 15]++;
@@ -108,7 +113,7 @@ static void walks(const uint8_t *options, size_t length, size_t offset, uint32_t
         w = plain_step(options, length, offset, at, edition);
         same_answer("step", &s, &w, sizeof s);
         note(s.answer, s.refusal, 0);
-        if (s.answer == BROTHLADDER_OPTION) kinds[s.kind % 26]++;
+        if (s.answer == BROTHLADDER_OPTION) kinds[s.kind % 256]++;
         if (s.answer != BROTHLADDER_OPTION || s.next <= at) over++;
         at = s.next;
     }
@@ -175,7 +180,7 @@ void damaged(void) {
             any_address(source);
             any_address(destination);
         } else {
-            n = message(packet, source, destination);
+            n = some_message(packet, source, destination);
         }
         for (uint32_t k = below(3); k > 0; k--) n = damage(packet, n);
         if (n >= 8 && below(8)) {

@@ -15,6 +15,12 @@ uint32_t some_edition(void) {
     return k < 8 ? SECOND : k < 15 ? FIRST : first_too[below(FIRST_TOO)];
 }
 
+/* The types that the second edition adds, with those beside them: the first and the last are in no edition. */
+static const uint8_t types_of[] = {23, 24, 25, 26};
+enum { TYPES = sizeof types_of };
+
+static int is_newer(uint32_t type) { return memchr(types_of + 1, (int)type, TYPES - 2) != NULL; }
+
 /* How the two walks went together: both to the end, both refused alike, the second refused alone; and of the last, where the first is whole. */
 static unsigned long whole, alike, alone, first_whole, shown;
 
@@ -30,7 +36,7 @@ void both_editions(const uint8_t *options, size_t length, size_t offset) {
         struct brothladder_stepped two = brothladder_step(options, length, offset, at, SECOND);
         if (two.answer == BROTHLADDER_REFUSED && one.answer == BROTHLADDER_OPTION) {
             check(two.refusal == 5 || two.refusal == 18, "refused in the second edition alone", "5 or 18");
-            check(one.type == 24 || one.type == 25, "refused in the second edition alone", "of type 24 or 25");
+            check(is_newer(one.type), "refused in the second edition alone", "of a type that it adds");
             first_whole += (unsigned long)first_ends(options, length, offset, one.next);
             alone++;
             return;
@@ -49,41 +55,48 @@ void both_editions(const uint8_t *options, size_t length, size_t offset) {
 }
 
 /* An option with this type and these units, prefix length and flags, alone in a list. Counted by edition and answer. */
-static unsigned long kinds[3][26], refusals[3][23];
+static unsigned long kinds[3][256], refusals[3][23];
 
-static void alone_in_a_list(uint8_t *lent, const uint8_t *bytes, size_t n) {
+static void alone_in_a_list(const uint8_t *lent, const uint8_t *bytes, size_t n) {
     for (uint32_t edition = FIRST; edition <= SECOND; edition++) {
         struct brothladder_stepped s = brothladder_step(lent, n, 16, 0, edition), w = plain_step(bytes, n, 16, 0, edition);
         same_answer("a newer option", &s, &w, sizeof s);
-        if (s.answer == BROTHLADDER_OPTION) kinds[edition][s.kind % 26] += s.type == 24 || s.type == 25;
-        else refusals[edition][s.refusal % 23] += bytes[0] == 24 || bytes[0] == 25;
+        if (s.answer == BROTHLADDER_OPTION) kinds[edition][s.kind % 256] += (unsigned long)is_newer(s.type);
+        else refusals[edition][s.refusal % 23] += (unsigned long)is_newer(bytes[0]);
     }
 }
 
 static const uint8_t units_of[] = {0, 1, 2, 3, 4, 5, 6, 7, 8, 254, 255};
-enum { UNITS = sizeof units_of, MOST = 8 * 255 };
+enum { UNITS = sizeof units_of, MOST = MOST_OPTION };
 
-/* Types 23 to 26, every prefix length and every flags byte: the option as it says it is, and for each prefix length a byte less. */
-static void every_option(void) {
-    static uint8_t bytes[MOST];
-    for (int i = 0; i < 4 * UNITS; i++) {
-        for (size_t k = 4; k < MOST; k++) bytes[k] = (uint8_t)chance();
-        bytes[0] = (uint8_t)(23 + i / UNITS);
+void each_newer(void (*whole)(const uint8_t *lent, const uint8_t *bytes, size_t n), void (*other)(const uint8_t *bytes, size_t n)) {
+    static uint8_t bytes[MOST + 1];
+    for (int i = 0; i < TYPES * UNITS; i++) {
+        for (size_t k = 4; k <= MOST; k++) bytes[k] = (uint8_t)chance();
+        bytes[0] = types_of[i / UNITS];
         bytes[1] = units_of[i % UNITS];
         size_t n = bytes[1] == 0 ? 8 : 8 * (size_t)bytes[1];
         uint8_t *p = lend(PACKET, HIGH, bytes, n);
         for (int k = 0; k < 65536; k++) {
             p[2] = bytes[2] = (uint8_t)(k >> 8);
             p[3] = bytes[3] = (uint8_t)k;
-            alone_in_a_list(p, bytes, n);
+            whole(p, bytes, n);
         }
         check(stands(PACKET, bytes, n), "a newer option", "is left alone");
         for (int k = 0; k < 256; k++) {
             bytes[2] = (uint8_t)k;
-            struct brothladder_stepped s = brothladder_step(lend(PACKET, HIGH, bytes, n - 1), n - 1, 16, 0, SECOND), w = plain_step(bytes, n - 1, 16, 0, SECOND);
-            same_answer("a newer option, a byte short", &s, &w, sizeof s);
+            other(bytes, n);
         }
     }
+}
+
+static void a_byte_short(const uint8_t *bytes, size_t n) {
+    struct brothladder_stepped s = brothladder_step(lend(PACKET, HIGH, bytes, n - 1), n - 1, 16, 0, SECOND), w = plain_step(bytes, n - 1, 16, 0, SECOND);
+    same_answer("a newer option, a byte short", &s, &w, sizeof s);
+}
+
+static void every_option(void) {
+    each_newer(alone_in_a_list, a_byte_short);
     /* Counted by hand: of the prefix lengths 1 fits into one unit, 65 into two and 129 into three; 127 are above 128. Of 256 flags 64 have the
        preference 10. Servers have 3, 5, 7 or 255 of these units. */
     same("routes", kinds[SECOND][24], (1 + 65 + 129) * 192);
@@ -100,11 +113,11 @@ static void every_option(void) {
 static void in_messages(void) {
     static const uint8_t prefixes[] = {0, 1, 64, 65, 128, 129, 255}, flags[] = {0, 8, 16, 24};
     static uint8_t packet[16 + MOST], out[16 + MOST], wanted[16 + MOST];
-    for (int i = 0; i < 4 * UNITS * 7 * 4 * 2; i++) {
+    for (int i = 0; i < TYPES * UNITS * 7 * 4 * 2; i++) {
         uint32_t edition = i % 2 ? SECOND : FIRST;
         memset(packet, 0, sizeof packet);
         packet[0] = 134;
-        packet[16] = (uint8_t)(23 + i / 2 / 4 / 7 / UNITS);
+        packet[16] = types_of[i / 2 / 4 / 7 / UNITS];
         packet[17] = units_of[i / 2 / 4 / 7 % UNITS];
         packet[18] = prefixes[i / 2 / 4 % 7];
         packet[19] = flags[i / 2 % 4];

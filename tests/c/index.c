@@ -6,11 +6,10 @@
 
 enum { LENT = 132, MOST_BYTES = 72 * 24 };
 
-/* ---- the same by plain C, from the rules alone: an index as far as the list walks, and how the walk ended */
+/* ---- the entries of a list as far as it walks */
 struct walked {
     uint32_t numbers[2 * MOST_BYTES];
     size_t count;
-    struct refused end;
 };
 
 static void walk_list(struct walked *w, const uint8_t *options, size_t length, size_t offset, uint32_t edition) {
@@ -20,7 +19,6 @@ static void walk_list(struct walked *w, const uint8_t *options, size_t length, s
         w->numbers[2 * w->count] = s.type;
         w->numbers[2 * w->count++ + 1] = (uint32_t)s.place;
     }
-    memcpy(&w->end, &s, sizeof w->end);
 }
 
 static struct brothladder_indexed answer(uint32_t refusal, uint64_t value, size_t length, size_t entries) {
@@ -34,61 +32,11 @@ static struct brothladder_indexed answer(uint32_t refusal, uint64_t value, size_
     return x;
 }
 
-static struct brothladder_indexed refusal_of(const struct refused *end) {
-    struct brothladder_indexed x = answer(end->refusal, 0, 0, 0);
-    memcpy(x.value, end->value, sizeof x.value);
-    return x;
-}
-
-/* I2, I3 */
-static struct brothladder_indexed plain_build(const uint8_t *options, size_t length, uint32_t *index, size_t lent, uint32_t edition) {
-    static struct walked w;
-    walk_list(&w, options, length, 0, edition);
-    if (w.end.answer != BROTHLADDER_END) return refusal_of(&w.end);
-    if (w.count > 64) return answer(20, 0, 0, 0);
-    if (lent < 2 * w.count) return answer(9, 8 * w.count, 0, 0);
-    memcpy(index, w.numbers, 8 * w.count);
-    return answer(0, 0, length, w.count);
-}
-
-/* I6 to I8 */
-static struct brothladder_indexed plain_append(uint8_t *list, size_t room, size_t used, uint32_t *index, size_t lent, size_t entries,
-                                               const uint8_t *more, size_t length, uint32_t edition) {
-    static struct walked own, new;
-    if (used > room) return answer(23, 0, 0, 0);
-    walk_list(&own, list, used, 0, edition);
-    if (own.end.answer != BROTHLADDER_END) return refusal_of(&own.end);
-    if (own.count > 64 || entries != own.count || lent < 2 * own.count || memcmp(index, own.numbers, 8 * own.count) != 0) return answer(23, 0, 0, 0);
-    walk_list(&new, more, length, used, edition);
-    if (new.end.answer != BROTHLADDER_END) return refusal_of(&new.end);
-    size_t all = own.count + new.count;
-    if (all > 64) return answer(20, 0, 0, 0);
-    if (room < used + length) return answer(9, used + length, 0, 0);
-    if (lent < 2 * all) return answer(9, 8 * all, 0, 0);
-    if (length > 0) memcpy(list + used, more, length);
-    memcpy(index + 2 * own.count, new.numbers, 8 * new.count);
-    return answer(0, 0, used + length, all);
-}
-
-/* I4, I5: `any` asks for the first */
-static struct brothladder_found plain_find(const uint32_t *index, size_t lent, size_t entries, uint8_t type, int any, size_t after) {
-    struct brothladder_found f;
-    memset(&f, 0, sizeof f);
-    f.answer = BROTHLADDER_NONE;
-    for (size_t i = 0; i < entries && i < lent / 2; i++)
-        if (index[2 * i] == type && (any || index[2 * i + 1] > after)) {
-            f.answer = BROTHLADDER_FOUND;
-            f.at = index[2 * i + 1];
-            break;
-        }
-    return f;
-}
-
 static void find(const uint32_t *index, size_t lent, size_t entries, uint8_t type, size_t after) {
-    struct brothladder_found f = brothladder_index_first(index, lent, entries, type), wanted = plain_find(index, lent, entries, type, 1, 0);
+    struct brothladder_found f = brothladder_index_first(index, lent, entries, type), wanted = plain_index_first(index, lent, entries, type);
     same_answer("first", &f, &wanted, sizeof f);
     f = brothladder_index_next(index, lent, entries, type, after);
-    wanted = plain_find(index, lent, entries, type, 0, after);
+    wanted = plain_index_next(index, lent, entries, type, after);
     same_answer("next", &f, &wanted, sizeof f);
 }
 
@@ -109,7 +57,7 @@ static int append(size_t room, size_t used, size_t lent, size_t entries, const u
     uint32_t *index = (uint32_t *)(void *)lend(OUT, some_side(), (const uint8_t *)have.index, 4 * lent);
     const uint8_t *new = lend(SOURCE, some_side(), more, length);
     struct brothladder_indexed got = brothladder_index_append(list, room, used, index, lent, entries, new, length, edition);
-    struct brothladder_indexed wanted = plain_append(have.list, room, used, have.index, lent, entries, more, length, edition);
+    struct brothladder_indexed wanted = plain_index_append(have.list, room, used, have.index, lent, entries, more, length, edition);
     same_answer("append", &got, &wanted, sizeof got);
     check(stands(PACKET, have.list, room) && stands(OUT, (const uint8_t *)have.index, 4 * lent) && stands(SOURCE, more, length), "append", "a buffer");
     outcomes[got.refusal]++;
@@ -120,7 +68,7 @@ static struct brothladder_indexed build(const uint8_t *bytes, size_t length, siz
     const uint8_t *options = lend(PACKET, some_side(), bytes, length);
     uint32_t *index = (uint32_t *)(void *)lend(OUT, some_side(), (const uint8_t *)have.index, 4 * lent);
     struct brothladder_indexed got = brothladder_index_build(options, length, index, lent, edition);
-    struct brothladder_indexed wanted = plain_build(bytes, length, have.index, lent, edition);
+    struct brothladder_indexed wanted = plain_index_build(bytes, length, have.index, lent, edition);
     same_answer("build", &got, &wanted, sizeof got);
     check(stands(PACKET, bytes, length) && stands(OUT, (const uint8_t *)have.index, 4 * lent), "build", "a buffer");
     return got;

@@ -10,12 +10,12 @@
 #define ENDS(name, bytes) __extension__ _Static_assert(sizeof(struct brothladder_##name) == bytes, #name)
 
 BEGINS(head);
-AT(head, type, 48, 4);
-AT(head, code, 52, 4);
-AT(head, checksum, 56, 4);
-AT(head, bytes5to8, 60, 4);
-AT(head, field, 64, 16);
-ENDS(head, 80);
+AT(head, type, 48, 1);
+AT(head, code, 49, 1);
+AT(head, checksum, 50, 2);
+AT(head, bytes5to8, 52, 4);
+AT(head, field, 56, 16);
+ENDS(head, 72);
 
 BEGINS(verified);
 ENDS(verified, 48);
@@ -103,6 +103,29 @@ ENDS(indexed, 64);
 BEGINS(found);
 AT(found, at, 48, 8);
 ENDS(found, 56);
+
+BEGINS(mtu);
+AT(mtu, kind, 48, 4);
+AT(mtu, mtu, 52, 4);
+AT(mtu, place, 56, 8);
+ENDS(mtu, 64);
+
+BEGINS(bytes);
+AT(bytes, at, 48, 8);
+AT(bytes, length, 56, 8);
+AT(bytes, place, 64, 8);
+ENDS(bytes, 72);
+
+BEGINS(message);
+AT(message, kind, 48, 4);
+AT(message, fixed_length, 52, 4);
+AT(message, reachable_time, 56, 4);
+AT(message, retrans_timer, 60, 4);
+AT(message, target_at, 64, 8);
+AT(message, destination_at, 72, 8);
+AT(message, options_at, 80, 8);
+AT(message, options_length, 88, 8);
+ENDS(message, 96);
 
 /* of this head the field at `index` is `value`, and the others are 0 */
 static void alone(const char *bytes, size_t index, uint32_t value) {

@@ -5,9 +5,7 @@
 #include <stdio.h>
 #include <string.h>
 
-enum { SECOND = BROTHLADDER_EDITION_SECOND, MOST = 8 * 255 };
-static const uint8_t units_of[] = {0, 1, 2, 3, 4, 5, 6, 7, 8, 254, 255};
-enum { UNITS = sizeof units_of };
+enum { SECOND = BROTHLADDER_EDITION_SECOND, MOST = MOST_OPTION };
 
 /* How often each answer came, and each refusal. */
 static unsigned long answers[17], refusals[23];
@@ -41,27 +39,18 @@ static void beside_a_step(const uint8_t *option, size_t n, size_t offset) {
     if (option[0] == 25) same("refused alike", d.refusal, s.refusal), check(memcmp(d.value, s.value, sizeof s.value) == 0, "servers are refused alike", "");
 }
 
-/* Types 23 to 26, every prefix length and every flags byte; for each prefix length also a byte less and a byte more. */
+static void as_it_says(const uint8_t *lent, const uint8_t *bytes, size_t n) {
+    read_both(lent, bytes, n, 16);
+    beside_a_step(bytes, n, 16);
+}
+
+/* And a byte less and a byte more. */
+static void about_as_long(const uint8_t *bytes, size_t n) {
+    for (size_t m = n - 1; m <= n + 1; m++) read_both(lend(PACKET, HIGH, bytes, m), bytes, m, 16), beside_a_step(bytes, m, 16);
+}
+
 static void every_option(void) {
-    static uint8_t bytes[MOST + 1];
-    for (int i = 0; i < 4 * UNITS; i++) {
-        for (size_t k = 4; k <= MOST; k++) bytes[k] = (uint8_t)chance();
-        bytes[0] = (uint8_t)(23 + i / UNITS);
-        bytes[1] = units_of[i % UNITS];
-        size_t n = bytes[1] == 0 ? 8 : 8 * (size_t)bytes[1];
-        uint8_t *p = lend(PACKET, HIGH, bytes, n);
-        for (int k = 0; k < 65536; k++) {
-            p[2] = bytes[2] = (uint8_t)(k >> 8);
-            p[3] = bytes[3] = (uint8_t)k;
-            read_both(p, bytes, n, 16);
-            beside_a_step(bytes, n, 16);
-        }
-        check(stands(PACKET, bytes, n), "a newer option", "is left alone");
-        for (int k = 0; k < 256; k++) {
-            bytes[2] = (uint8_t)k;
-            for (size_t m = n - 1; m <= n + 1; m++) read_both(lend(PACKET, HIGH, bytes, m), bytes, m, 16), beside_a_step(bytes, m, 16);
-        }
-    }
+    each_newer(as_it_says, about_as_long);
     /* Counted by hand, without the lengths that are a byte off: of the prefix lengths 1 fits into one unit, 65 into two and 129 into three; of 256
        flags 64 have the preference 10. Servers have 3, 5, 7 or 255 of these units. With the lengths in between, each once more for 256 prefix
        lengths, with one byte of flags, ff, whose preference is 11. */

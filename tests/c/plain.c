@@ -1,4 +1,5 @@
 /* Plain C that gives the answers of brothladder.h, written from the rules (docs/RULES.md) and the RFCs, which the comments name. */
+#include "plain_head.h"
 #include "plain_walk.h"
 #include <string.h>
 
@@ -7,29 +8,6 @@ static uint32_t number(const uint8_t *p, int bytes) {
     for (int i = 0; i < bytes; i++) n = n << 8 | p[i];
     return n;
 }
-
-/* H3: how many codes a type lists, from 0 on. */
-static int codes(int type) {
-    switch (type) {
-    case 1: return 7;
-    case 3: return 2;
-    case 4: return 11;
-    case 2: case 128: case 129: case 133: case 134: case 135: case 136: case 137: return 1;
-    default: return 0;
-    }
-}
-
-/* H3: the length of a type's fixed part. */
-static size_t fixed_part(int type) {
-    switch (type) {
-    case 134: return 8;
-    case 135: case 136: return 16;
-    case 137: return 32;
-    default: return 0;
-    }
-}
-
-static bool neighbor_discovery(int type) { return 133 <= type && type <= 137; }
 
 /* Refusals 1 and 2; 0 for none. */
 static uint32_t bad_length(size_t length, uint64_t value[5]) {
@@ -46,7 +24,7 @@ struct brothladder_head plain_decode(const uint8_t *packet, size_t length) {
     if ((h.refusal = bad_length(length, h.value)) != 0) return h;
     h.type = packet[0];
     h.code = packet[1];
-    h.checksum = number(packet + 2, 2);
+    h.checksum = (uint16_t)number(packet + 2, 2);
     h.bytes5to8 = number(packet + 4, 4);
     h.answer = packet[1] < codes(packet[0]) ? BROTHLADDER_KNOWN : BROTHLADDER_UNKNOWN;
     if (h.answer == BROTHLADDER_UNKNOWN) {
@@ -77,29 +55,6 @@ struct brothladder_head plain_decode(const uint8_t *packet, size_t length) {
     return h;
 }
 
-/* S1, without the carries. */
-static uint64_t words(uint64_t sum, const uint8_t *p, size_t n) {
-    size_t i;
-    for (i = 0; i + 1 < n; i += 2) sum += (uint32_t)p[i] << 8 | p[i + 1];
-    if (i < n) sum += (uint32_t)p[i] << 8;
-    return sum;
-}
-
-static uint32_t folded(uint64_t sum) {
-    while (sum >> 16) sum = (sum & 65535) + (sum >> 16);
-    return (uint32_t)sum;
-}
-
-/* S2, what stands before the packet. */
-static uint64_t pseudo_header(size_t length, const uint8_t *source, const uint8_t *destination) {
-    return words(words(0, source, 16), destination, 16) + (length >> 16) + (length & 65535) + 58;
-}
-
-unsigned plain_checksum(const uint8_t *packet, size_t length, const uint8_t *source, const uint8_t *destination) {
-    uint64_t sum = words(words(pseudo_header(length, source, destination), packet, 2), packet + 4, length - 4);
-    return 65535 - folded(sum);
-}
-
 static bool sums_up(const uint8_t *packet, size_t length, const uint8_t *source, const uint8_t *destination) {
     return folded(words(pseudo_header(length, source, destination), packet, length)) == 65535;
 }
@@ -111,6 +66,24 @@ struct brothladder_verified plain_verify(const uint8_t *packet, size_t length, c
     if ((v.refusal = bad_length(length, v.value)) != 0) return v;
     v.answer = sums_up(packet, length, source, destination) ? BROTHLADDER_VALID : BROTHLADDER_INVALID;
     return v;
+}
+
+/* S1, U9, U10: a sum, and whether an odd number of bytes is in it. */
+static struct brothladder_summed summed(uint64_t sum, unsigned odd) {
+    struct brothladder_summed s = {BROTHLADDER_SUM, (uint16_t)folded(sum), (uint16_t)(odd % 2)};
+    return s;
+}
+
+struct brothladder_summed plain_sum(const uint8_t *bytes, size_t length) { return summed(words(0, bytes, length), length % 2); }
+
+struct brothladder_summed plain_sum_pseudo(const uint8_t *source, const uint8_t *destination, uint32_t length) {
+    return summed(pseudo_header(length, source, destination), 0);
+}
+
+/* Behind an odd number of bytes each byte of the second part stands in the other half of its word. */
+struct brothladder_summed plain_sum_join(struct brothladder_summed first, struct brothladder_summed second) {
+    uint32_t behind = first.odd % 2 ? (uint32_t)(second.sum & 255) << 8 | second.sum >> 8 : second.sum;
+    return summed((uint64_t)first.sum + behind, first.odd % 2u + second.odd % 2u);
 }
 
 /* M1 and M2: RFC 1624, equation 3; the three numbers come to less than 2^18, so that two rounds take every carry in. */
@@ -144,7 +117,7 @@ struct brothladder_updated plain_change(uint8_t *packet, size_t length, size_t p
 /* E5: the kind of an option that passed its tests. RFC 4191, section 2.1: the bits 10 of a preference are reserved. */
 static uint32_t kind_of(const uint8_t *p, uint32_t edition) {
     if (p[0] <= 5) return p[0];
-    if (!in_second(edition) || (p[0] != 24 && p[0] != 25)) return 0;
+    if (!in_second(edition) || !is_newer(p[0])) return 0;
     return p[0] == 24 && (p[3] & 0x18) == 0x10 ? 0 : p[0];
 }
 
@@ -225,55 +198,6 @@ struct brothladder_received plain_receive(const uint8_t *packet, size_t length, 
     return r;
 }
 
-/* H8: bytes 4 to 7 without their reserved bits. */
-static uint32_t cleared(int type, int code, uint32_t bytes5to8) {
-    if (code >= codes(type)) return bytes5to8;
-    switch (type) {
-    case 1: case 3: case 133: case 135: case 137: return 0;
-    case 134: return bytes5to8 & 0xffc0ffff;
-    case 136: return bytes5to8 & 0xe0000000;
-    default: return bytes5to8;
-    }
-}
-
-/* H17, T9: `rest` is bytes 4 to 7 as they are written. */
-static struct brothladder_written write_head(uint8_t type, uint8_t code, uint32_t rest, const uint8_t *payload, size_t payload_length,
-                                             const uint8_t *source, const uint8_t *destination, uint8_t *out, size_t out_length,
-                                             uint32_t edition) {
-    struct brothladder_written w;
-    bool source_option;
-    memset(&w, 0, sizeof w);
-    w.answer = BROTHLADDER_REFUSED;
-    if (payload_length > 65527) return w.value[0] = 65527, w.value[1] = payload_length, w.refusal = 3, w;
-    if (neighbor_discovery(type) && code == 0) {
-        size_t fixed = fixed_part(type);
-        if (payload_length < fixed) return w.value[0] = fixed, w.value[1] = payload_length, w.refusal = 4, w;
-        if ((w.refusal = bad_walk(payload + fixed, payload_length - fixed, 8 + fixed, edition, w.value, &source_option)) != 0) return w;
-    }
-    if (out_length < 8 + payload_length) return w.value[0] = 8 + payload_length, w.refusal = 9, w;
-    const uint8_t head[8] = {type, code, 0, 0, (uint8_t)(rest >> 24), (uint8_t)(rest >> 16), (uint8_t)(rest >> 8), (uint8_t)rest};
-    memcpy(out, head, 8);
-    if (payload_length > 0) memcpy(out + 8, payload, payload_length);
-    w.length = 8 + payload_length;
-    unsigned sum = plain_checksum(out, w.length, source, destination);
-    out[2] = (uint8_t)(sum >> 8);
-    out[3] = (uint8_t)sum;
-    w.answer = BROTHLADDER_WRITTEN;
-    return w;
-}
-
-struct brothladder_written plain_write(uint8_t type, uint8_t code, uint32_t bytes5to8, const uint8_t *payload, size_t payload_length,
-                                       const uint8_t *source, const uint8_t *destination, uint8_t *out, size_t out_length,
-                                       uint32_t edition) {
-    return write_head(type, code, bytes5to8, payload, payload_length, source, destination, out, out_length, edition);
-}
-
-struct brothladder_written plain_write_clearing(uint8_t type, uint8_t code, uint32_t bytes5to8, const uint8_t *payload,
-                                                size_t payload_length, const uint8_t *source, const uint8_t *destination, uint8_t *out,
-                                                size_t out_length, uint32_t edition) {
-    return write_head(type, code, cleared(type, code, bytes5to8), payload, payload_length, source, destination, out, out_length, edition);
-}
-
 /* O1 and O4: a prefix information option. */
 struct brothladder_prefix plain_prefix(const uint8_t *option, size_t length, size_t offset) {
     struct brothladder_prefix p;
@@ -294,6 +218,71 @@ struct brothladder_prefix plain_prefix(const uint8_t *option, size_t length, siz
     memcpy(p.prefix, option + 16, 16);
     p.place = offset;
     return p;
+}
+
+/* O1 and O7: an MTU option. */
+struct brothladder_mtu plain_mtu(const uint8_t *option, size_t length, size_t offset) {
+    struct brothladder_mtu m;
+    memset(&m, 0, sizeof m);
+    m.answer = BROTHLADDER_REFUSED;
+    if (far(offset, length)) return m.refusal = 22, m;
+    m.value[0] = 5;
+    if (length != 8) return m.value[1] = 8, m.value[2] = length, m.value[3] = offset, m.refusal = 5, m;
+    if (option[0] != 5 || option[1] != 1)
+        return m.value[1] = option[0], m.value[2] = 1, m.value[3] = option[1], m.value[4] = offset, m.refusal = 8, m;
+    m.value[0] = 0;
+    m.answer = BROTHLADDER_MTU;
+    m.kind = 5;
+    m.mtu = number(option + 4, 4);
+    m.place = offset;
+    return m;
+}
+
+/* O2 and O8: an option of a type, whose bytes are those from a place on. */
+static struct brothladder_bytes option_bytes(uint8_t type, size_t from, const uint8_t *option, size_t length, size_t offset) {
+    struct brothladder_bytes b;
+    memset(&b, 0, sizeof b);
+    b.answer = BROTHLADDER_REFUSED;
+    if (far(offset, length)) return b.refusal = 22, b;
+    b.value[0] = type;
+    if (length < 8) return b.value[1] = 8, b.value[2] = length, b.value[3] = offset, b.refusal = 5, b;
+    if (option[0] != type) return b.value[1] = option[0], b.value[2] = b.value[3] = option[1], b.value[4] = offset, b.refusal = 8, b;
+    if (option[1] == 0) return b.value[1] = offset, b.refusal = 6, b;
+    if (length != 8 * (size_t)option[1]) return b.value[1] = 8 * (size_t)option[1], b.value[2] = length, b.value[3] = offset, b.refusal = 5, b;
+    b.value[0] = 0;
+    b.answer = BROTHLADDER_BYTES;
+    b.at = from;
+    b.length = length - from;
+    b.place = offset;
+    return b;
+}
+
+struct brothladder_bytes plain_link_layer_address(const uint8_t *option, size_t length, size_t offset, uint32_t kind) {
+    return option_bytes(kind == 2 ? 2 : 1, 2, option, length, offset);
+}
+
+struct brothladder_bytes plain_redirected_header(const uint8_t *option, size_t length, size_t offset) {
+    return option_bytes(4, 8, option, length, offset);
+}
+
+/* K3, K5 and K6: a packet's fixed part. */
+struct brothladder_message plain_message(const uint8_t *packet, size_t length) {
+    struct brothladder_message m;
+    memset(&m, 0, sizeof m);
+    m.answer = BROTHLADDER_REFUSED;
+    if ((m.refusal = bad_length(length, m.value)) != 0) return m;
+    int type = packet[1] < codes(packet[0]) ? packet[0] : 0;
+    size_t fixed = fixed_part(type);
+    if (length - 8 < fixed) return m.value[0] = fixed, m.value[1] = length - 8, m.refusal = 4, m;
+    m.answer = BROTHLADDER_MESSAGE;
+    m.kind = (uint32_t)type;
+    m.fixed_length = (uint32_t)fixed;
+    if (type == 134) m.reachable_time = number(packet + 8, 4), m.retrans_timer = number(packet + 12, 4);
+    if (type == 135 || type == 136 || type == 137) m.target_at = 8;
+    if (type == 137) m.destination_at = 24;
+    m.options_at = neighbor_discovery(type) ? 8 + fixed : length;
+    m.options_length = length - m.options_at;
+    return m;
 }
 
 /* Q10: beside a refusal the chain is all 0. */

@@ -95,10 +95,10 @@ static unsigned reserved_bits(uint8_t type, size_t fixed, uint32_t edition) {
         came[2] = (uint8_t)(sum >> 8);
         came[3] = (uint8_t)sum;
         struct brothladder_head h = brothladder_decode(came, 8 + fixed);
-        struct brothladder_written w = brothladder_write((uint8_t)h.type, (uint8_t)h.code, h.bytes5to8, came + 8, fixed, router, all_routers, kept, sizeof kept, edition);
+        struct brothladder_written w = brothladder_write(h.type, h.code, h.bytes5to8, came + 8, fixed, router, all_routers, kept, sizeof kept, edition);
         same("kept", w.length, 8 + fixed);
         check(memcmp(kept, came, 8) == 0, "kept", "the eight bytes that came");
-        w = brothladder_write_clearing((uint8_t)h.type, (uint8_t)h.code, h.bytes5to8, came + 8, fixed, router, all_routers, cleared, sizeof cleared, edition);
+        w = brothladder_write_clearing(h.type, h.code, h.bytes5to8, came + 8, fixed, router, all_routers, cleared, sizeof cleared, edition);
         same("cleared", w.length, 8 + fixed);
         reserved += cleared[4 + bit / 8] == 0;
     }

@@ -5,16 +5,17 @@ for it: each capture crosses both limits many times, and its first 65,536 bytes 
 import random
 import sys
 
+import making
 import model
 
 BUFFER, TEXT, LONGEST = 65536, 65536 - 36352, 9000
-ADDRESSES = [bytes.fromhex("fe80" + "00" * 13 + "01"), bytes.fromhex("ff02" + "00" * 13 + "02"), bytes(16)]
+ADDRESSES = [making.NEAR, making.ROUTERS, bytes(16)]
 folder = sys.argv[1]
 random.seed(20261115)
 
 
 def record(packet):
-    return (b"I7" if len(packet) > 2048 else b"I6") + bytes([random.choice([255, 255, 64])]) + random.choice(ADDRESSES) + random.choice(ADDRESSES) + len(packet).to_bytes(2, "big") + packet
+    return making.record(packet, random.choice([255, 255, 64]), random.choice(ADDRESSES), random.choice(ADDRESSES))
 
 
 def packet(most=LONGEST):
@@ -36,10 +37,8 @@ def records(size):
 
 
 def case(name, capture, last):
-    text = model.listing(capture)
+    text = making.write(folder, name, capture)
     assert len(capture) > 200000 and len(text) > 4 * TEXT and text.split("\n")[-2].startswith(last), name
-    open(f"{folder}/{name}.rec", "wb").write(capture)
-    open(f"{folder}/{name}.txt", "w").write(text)
 
 
 def many(size):

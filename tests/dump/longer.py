@@ -4,15 +4,10 @@ behind the other, cut at each boundary of each record, and forty packets of 9,00
 import random
 import sys
 
-import model
+from making import record, write
 
-NEAR, ROUTERS = bytes.fromhex("fe80" + "00" * 13 + "01"), bytes.fromhex("ff02" + "00" * 13 + "02")
 folder = sys.argv[1]
 random.seed(20261116)
-
-
-def record(packet):
-    return (b"I7" if len(packet) > 2048 else b"I6") + b"\xff" + NEAR + ROUTERS + len(packet).to_bytes(2, "big") + packet
 
 
 def packet(size):
@@ -23,21 +18,14 @@ def packet(size):
     return made + bytes(size - len(made))
 
 
-def case(name, capture, last):
-    text = model.listing(capture)
-    assert text.split("\n")[-2] == last, (name, last)
-    open(f"{folder}/{name}.rec", "wb").write(capture)
-    open(f"{folder}/{name}.txt", "w").write(text)
-
-
 three = [record(packet(size)) for size in (2048, 2049, 9000)]
 whole = b"".join(three)
-case("three", whole, "records 3")
+write(folder, "three", whole, "records 3")
 start = 0
 for n, r in enumerate(three):
     # behind the record before it: a byte of the mark, the mark, a byte of the length, the head, a byte of the packet, all but one of its bytes
     for there in (1, 2, 36, 37, 38, len(r) - 1):
-        case(f"cut_{start + there}", whole[:start + there], f"stopped 14 at {start}")
+        write(folder, f"cut_{start + there}", whole[:start + there], f"stopped 14 at {start}")
     start += len(r)
-    case(f"cut_{start}", whole[:start], f"records {n + 1}")
-case("forty", b"".join(record(packet(9000)) for _ in range(40)), "records 40")
+    write(folder, f"cut_{start}", whole[:start], f"records {n + 1}")
+write(folder, "forty", b"".join(record(packet(9000)) for _ in range(40)), "records 40")

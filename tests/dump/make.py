@@ -1,23 +1,19 @@
 #!/usr/bin/env python3
 """make.py: writes the stored cases, cases/NAME.rec with cases/NAME.txt beside it, the listing by model.py. Made from the worked example, the
-packets that RFCs print, those on a boundary (boundaries.txt), the shipped capture, every mark with the lengths round its limits, and chance from a fixed
-seed."""
+packets that RFCs print, those on a boundary (boundaries.txt), the shipped capture, and chance from a fixed seed. marks.py, longer.py and large.py make others for
+each run."""
 import ipaddress
 import os
 import random
 import shutil
 
 import model
+from making import NEAR, ROUTERS, record, write
 
 here = os.path.dirname(os.path.abspath(__file__))
 shutil.rmtree(here + "/cases", ignore_errors=True)
 os.makedirs(here + "/cases")
-NEAR, ROUTERS = bytes.fromhex("fe80" + "00" * 13 + "01"), bytes.fromhex("ff02" + "00" * 13 + "02")
 ONE, TWO = bytes.fromhex("85007a2c000000000101020000000001"), bytes.fromhex("85007a2d000000000100020000000001")
-
-
-def record(packet, hops=255, source=NEAR, destination=ROUTERS):
-    return (b"I7" if len(packet) > 2048 else b"I6") + bytes([hops]) + source + destination + len(packet).to_bytes(2, "big") + packet
 
 
 def sealed(packet, source, destination):
@@ -34,11 +30,8 @@ def address(text):
     return ipaddress.ip_address(text).packed
 
 
-def case(name, capture, wanted=None):
-    text = model.listing(capture)
-    assert wanted is None or text.endswith(wanted + "\n"), (name, text)
-    open(f"{here}/cases/{name}.rec", "wb").write(capture)
-    open(f"{here}/cases/{name}.txt", "w").write(text)
+def case(name, capture, end=None):
+    write(here + "/cases", name, capture, end)
 
 
 good = record(ONE) + record(TWO)
@@ -56,16 +49,6 @@ case("length_2049", good + b"I6" + bytes(33) + (2049).to_bytes(2, "big") + bytes
 case("length_before_body", good + b"I6" + bytes(33) + b"\xff\xff", "stopped 13 at 106")
 case("short_packets", b"".join(record(ONE[:n]) for n in range(10)), "records 10")
 case("no_packet", record(b"") * 3, "records 3")
-# a mark, a length and so many bytes behind it, or bytes as they are: what stops there. Each alone and behind two records.
-for mark, length, body, stop in [
-        (b"I6", 0, 0, 0), (b"I6", 1, 1, 0), (b"I6", 2048, 2048, 0), (b"I6", 2048, 2047, 14), (b"I6", 2049, 2049, 13), (b"I6", 2049, 0, 13), (b"I6", 9000, 0, 13),
-        (b"I6", 9001, 0, 13), (b"I7", 0, 0, 13), (b"I7", 2048, 2048, 13), (b"I7", 2048, 0, 13), (b"I7", 2049, 2049, 0), (b"I7", 9000, 9000, 0),
-        (b"I7", 2049, 2048, 14), (b"I7", 9000, 8999, 14), (b"I7", 9001, 0, 13), (b"I7", 65535, 0, 13), (b"I7", 2049, -1, 14), (b"I7", 2049, -35, 14), (b"I7", 2049, -36, 14),
-        (b"I5", 0, -35, 12), (b"I8", 0, -35, 12), (b"I8", 2049, 2049, 12)]:
-    row = (mark + b"\xff" + NEAR + ROUTERS + length.to_bytes(2, "big") + bytes([128]) + bytes(9000))[:37 + body]
-    name = f"{mark.decode().lower()}_{length}_" + (f"{body}_behind" if body >= 0 else f"{37 + body}_in_all")
-    case("row_" + name, row, f"stopped {stop} at 0" if stop else "records 1")
-    case("behind_" + name, good + row, f"stopped {stop} at 106" if stop else "records 3")
 # the longest text: 1,124 options of one unit behind the eight bytes of the head; and the same refused at its last option
 options = b"".join(bytes([1 + i % 2, 1, i // 256, i % 256, 0, 0, 0, 0]) for i in range(1124))
 longest = sealed(b"\x85\0\0\0\0\0\0\0" + options, NEAR, ROUTERS)

@@ -1,6 +1,10 @@
 #!/usr/bin/env python3
 """model.py: the dump's listing of a capture, written in Python from the rules alone (docs/RULES.md), to compare with. model.py FILE prints it."""
+import os
 import sys
+
+sys.path.insert(0, os.path.dirname(os.path.dirname(os.path.abspath(__file__))))
+import walk as options
 
 WORDS = {1: "unreach", 2: "toobig", 3: "exceeded", 4: "param", 128: "echoreq", 129: "echorep", 133: "rs", 134: "ra", 135: "ns", 136: "na", 137: "redirect"}
 CODES = {1: 7, 3: 2, 4: 11}  # how many are listed; of the others 1
@@ -20,21 +24,9 @@ def valid(source, destination, packet):
 
 def walk(packet):
     """The options behind the fixed part as (place in the packet, type, bytes), and how the walk ends: None, or (refusal, place)."""
-    found, at = [], 8 + FIXED[packet[0]]
-    while at < len(packet):
-        rest = packet[at:]
-        if len(rest) < 2:
-            return found, (5, at)
-        if rest[1] == 0:
-            return found, (6, at)
-        size = 8 * rest[1]
-        if len(rest) < size:
-            return found, (7, at)
-        if rest[0] == 3 and size != 32 or rest[0] == 5 and size != 8:
-            return found, (5, at)
-        found.append((at, rest[0], size))
-        at += size
-    return found, None
+    at = 8 + FIXED[packet[0]]
+    found, refused = options.walk(packet[at:], at)
+    return found, refused and (refused[0], refused[-1])
 
 
 def link_local(address):

@@ -9,8 +9,8 @@ import sys
 import tempfile
 
 root = os.path.dirname(os.path.dirname(os.path.dirname(os.path.abspath(__file__))))
-HEADER, PREFIX, DECODE, STEP, QUOTES, INDEX, SPLIT, ANSWER, VERSION, SUMMED = "include/brothladder.h", *(
-    f"crates/c_{c}/src/lib.rt" for c in ("prefix", "decode", "step", "quotes", "index", "split", "answer", "version", "summed"))
+HEADER, PREFIX, DECODE, STEP, QUOTES, INDEX, SPLIT, ANSWER, VERSION, SUMMED, MESSAGE = "include/brothladder.h", *(
+    f"crates/c_{c}/src/lib.rt" for c in ("prefix", "decode", "step", "quotes", "index", "split", "answer", "version", "summed", "message"))
 EDITIONS = "crates/ndp_options/specs/Editions.antt"
 
 
@@ -23,13 +23,14 @@ def copied(to):
         elif crate in ("refusal", "ndp_options", "icmpv6_type", "router_preference"):
             shutil.copytree(f"{root}/crates/{crate}/specs", f"{to}/crates/{crate}/specs")
     os.makedirs(to + "/tools")
-    for file in ("tools/header", "tools/rattle_source.py", "crates.txt"):
+    os.makedirs(to + "/docs")
+    for file in ("tools/header", "tools/rattle_source.py", "tools/text_table.py", "tools/texts.txt", "docs/DUMP.md", "crates.txt"):
         shutil.copy(f"{root}/{file}", f"{to}/{file}")
 
 
 def seen(to):
     """Which of the two fails over the copy."""
-    cc = shutil.which("gcc") or shutil.which("x86_64-linux-gnu-gcc")
+    cc = shutil.which("x86_64-linux-gnu-gcc") or shutil.which("gcc")  # for x86-64
     layout = [cc, "-std=c99", "-Wall", "-Wextra", "-Wpedantic", "-Werror", "-fsyntax-only", "-Iinclude", "tests/c/layout.c"]
     return [name for name, run in (("header", [sys.executable, "tools/header"]), ("layout", layout)) if subprocess.run(run, cwd=to, capture_output=True).returncode]
 
@@ -43,9 +44,11 @@ def exchanged(a, b):
 
 
 def instead(a, b):
+    """One piece of a file for another, however its lines are broken."""
     def change(text):
-        assert text.count(a) == 1, a
-        return text.replace(a, b)
+        found = re.findall(re.sub(r"(\\ )+", r"\\s+", re.escape(a)).replace(r"\(", r"\(\s*"), text)
+        assert len(found) == 1, (a, found)
+        return text.replace(found[0], b)
     return change
 
 
@@ -61,12 +64,13 @@ def fields(a, b):
 
 lifetimes = {HEADER: exchanged("uint32_t valid_lifetime;", "uint32_t preferred_lifetime;"), PREFIX: exchanged("pub valid_lifetime: u32", "pub preferred_lifetime: u32")}
 places = {HEADER: exchanged("    size_t at;    ", "    size_t next;"), STEP: exchanged("pub at: usize", "pub next: usize")}
-place = {HEADER: exchanged("    size_t at;    ", "    size_t place; /* where the option begins in the packet: offset + at */"), STEP: exchanged("pub at: usize", "pub place: usize")}
+place = {HEADER: exchanged("    size_t at;    /* the option is options[at] to options[at + length - 1] */", "    size_t place; /* where the option begins in the packet: offset + at */"), STEP: exchanged("pub at: usize", "pub place: usize")}
 levels = {HEADER: exchanged("    uint8_t next_header[8];", "    uint8_t level_kind[8];"), QUOTES: exchanged("pub next_header: [u8; 8]", "pub level_kind: [u8; 8]")}
 nine = {HEADER: instead("uint32_t quote[8];", "uint32_t quote[9];"), QUOTES: instead("pub quote: [u32; 8]", "pub quote: [u32; 9]")}
 wide = {HEADER: instead("uint16_t on_link;", "uint32_t on_link;"), PREFIX: instead("pub on_link: u16", "pub on_link: u32")}
 entries = {HEADER: exchanged("    size_t length;  /* the list", "    size_t entries; /* and"), INDEX: exchanged("pub length: usize", "pub entries: usize")}
 parts = {HEADER: exchanged("    size_t at; /* the options of", "    size_t length; /* 0 for"), SPLIT: exchanged("pub at: usize", "pub length: usize")}
+addresses = {HEADER: exchanged("    size_t target_at; ", "    size_t destination_at; "), MESSAGE: exchanged("pub target_at: usize", "pub destination_at: usize")}
 MISTAKES = [
     ("nothing", {}, []),
     ("two members exchanged in source and header", lifetimes, ["layout"]),
@@ -79,6 +83,8 @@ MISTAKES = [
     ("numbers told as bytes in a prototype", {HEADER: instead("brothladder_index_first(const uint32_t *index", "brothladder_index_first(const uint8_t *index")}, ["header"]),
     ("numbers that are written told as read", {HEADER: instead("size_t options_length, uint32_t *index", "size_t options_length, const uint32_t *index")}, ["header"]),
     ("place and length of a part exchanged in source and header", parts, ["layout"]),
+    ("target and destination of a message exchanged in source and header", addresses, ["layout"]),
+    ("a packet that is written in place told as read", {HEADER: instead("brothladder_write_in_place(uint8_t type, uint8_t code, uint32_t bytes5to8, uint8_t *packet", "brothladder_write_in_place(uint8_t type, uint8_t code, uint32_t bytes5to8, const uint8_t *packet")}, ["header"]),
     ("a plan that is written told as read", {HEADER: instead("size_t limit, uint32_t *plan", "size_t limit, const uint32_t *plan")}, ["header"]),
     ("a plan of bytes in a prototype", {HEADER: instead("brothladder_plan_message(const uint8_t *options, size_t options_length, size_t limit, const uint32_t *plan", "brothladder_plan_message(const uint8_t *options, size_t options_length, size_t limit, const uint8_t *plan")}, ["header"]),
     ("two members exchanged in the header", {HEADER: lifetimes[HEADER]}, ["header", "layout"]),
@@ -101,10 +107,23 @@ MISTAKES = [
     ("another number for the second edition", {EDITIONS: instead("editionOf n = cond (eqb n 2)", "editionOf n = cond (eqb n 3)")}, ["header"]),
     ("every number but 1 the second edition", {EDITIONS: instead("(eqb n 2) Second First", "(eqb n 1) First Second")}, ["header"]),
     ("no edition in a prototype", {HEADER: instead("size_t offset, size_t at, uint32_t edition);", "size_t offset, size_t at);")}, ["header"]),
-    ("another version in the header", {HEADER: instead("VERSION 5u", "VERSION 6u")}, ["header"]),
-    ("another version in the source", {VERSION: instead("VERSION: u32 = 5", "VERSION: u32 = 6")}, ["header"]),
-    ("a version whose call keeps its name", {HEADER: instead("VERSION 5u", "VERSION 6u"), VERSION: instead("VERSION: u32 = 5", "VERSION: u32 = 6")}, ["header"]),
-    ("no reference to the version", {HEADER: instead("(void) = brothladder_version_5;", "(void) = 0;")}, ["header"]),
+    ("another version in the header", {HEADER: instead("VERSION 6u", "VERSION 7u")}, ["header"]),
+    ("another version in the source", {VERSION: instead("VERSION: u32 = 6", "VERSION: u32 = 7")}, ["header"]),
+    ("a version whose call keeps its name", {HEADER: instead("VERSION 6u", "VERSION 7u"), VERSION: instead("VERSION: u32 = 6", "VERSION: u32 = 7")}, ["header"]),
+    ("no reference to the version", {HEADER: instead("(void) = brothladder_version_6;", "(void) = 0;")}, ["header"]),
+    ("another name of the version's call", {HEADER: instead("VERSION_CALL brothladder_version_6", "VERSION_CALL brothladder_version_5")}, ["header"]),
+    ("a text that is not the table's", {HEADER: instead("the hop limit is not 255", "the hop limit is 255")}, ["header"]),
+    ("a text that is not the header's", {"tools/texts.txt": instead("a route has a prefix length above 128", "a route is too long")}, ["header"]),
+    ("a number without a text", {"tools/texts.txt": instead("refusal 23 | the index is not the one that the list builds\n", "")}, ["header"]),
+    ("another word in docs/DUMP.md", {"docs/DUMP.md": instead("| the code is not 0 |", "| the code is another than 0 |")}, ["header"]),
+    ("a line of 101 columns", {HEADER: instead("/* The sum of some bytes. */", "/* The sum of some bytes. " + 73 * "." + " */")}, ["header"]),
+    ("no licence", {HEADER: instead("/* SPDX-License-Identifier: Apache-2.0 */\n", "")}, ["header"]),
+    ("another size", {HEADER: instead("SIZE(part, 64)", "SIZE(part, 72)")}, ["header", "layout"]),
+    ("a struct without its size", {HEADER: instead("BROTHLADDER_SIZE(part, 64);\n", "")}, ["header"]),
+    ("another common beginning", {HEADER: instead("struct brothladder_answer { uint32_t answer; uint32_t refusal;", "struct brothladder_answer {\n    uint32_t refusal;\n    uint32_t answer;")}, ["header"]),
+    ("a member in the table that is not there", {HEADER: instead("plan PLANNED messages", "plan                PLANNED         parts")}, ["header"]),
+    ("a call that is not in the table", {HEADER: instead(" *     preference PREFERENCE preference\n", "")}, ["header"]),
+    ("an answer of the table that is none", {HEADER: instead("index_first NONE", "index_first         NOTHING")}, ["header"]),
     ("a member without its place", {"tests/c/layout.c": instead("AT(stepped, next, 72, 8);\n", "")}, ["header"]),
 ]
 failed = 0

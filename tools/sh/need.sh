@@ -9,9 +9,13 @@ need() {
         dpkg-query -W -f '${Status}' "${wanted#*:}" 2>/dev/null | grep -q ' installed' || lack="$lack ${wanted#*:}"
     done
     [ -n "$lack" ] || return 0
-    apt-get -qq update
-    # shellcheck disable=SC2086
-    DEBIAN_FRONTEND=noninteractive apt-get -qq -o DPkg::Lock::Timeout=300 install -y --no-install-recommends $lack >/dev/null
+    # one script at a time
+    (
+        flock 9
+        apt-get -qq update
+        # shellcheck disable=SC2086
+        DEBIAN_FRONTEND=noninteractive apt-get -qq -o DPkg::Lock::Timeout=300 install -y --no-install-recommends $lack >/dev/null
+    ) 9>"${TMPDIR:-/tmp}/brothladder.need"
 }
 
 # the compiler for x86-64 and the packages that a static program needs
@@ -30,5 +34,8 @@ emulated() {
     ${limit:+timeout "$limit"} "$@"
 }
 
-# built PROGRAM..: a program that `rt` built, run with the toolchain's loader and libraries
-built() { emulated "$(toolchain)/lib/ld-linux-x86-64.so.2" --library-path "$(toolchain)/lib" "$@"; }
+# built PROGRAM..: a program that `rt` built, run with the toolchain's loader and libraries; with the system's where there is no toolchain
+built() {
+    if ! command -v rt >/dev/null 2>&1; then "$@"; return; fi
+    emulated "$(toolchain)/lib/ld-linux-x86-64.so.2" --library-path "$(toolchain)/lib" "$@"
+}

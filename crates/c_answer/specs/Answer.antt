@@ -36,7 +36,7 @@ STOPPED = 8
 abbrev pub RECEIVED : ℕ
 RECEIVED = 9
 
--- a packet that was written
+-- a packet or an option that was written
 abbrev pub WRITTEN : ℕ
 WRITTEN = 10
 
@@ -90,9 +90,20 @@ abbrev pub «NOT_ACCEPTED» : ℕ
 abbrev pub PLANNED : ℕ
 PLANNED = 24
 
+-- the other options that were read: the MTU, and bytes that an option carries
+abbrev pub MTU : ℕ
+MTU = 25
+
+abbrev pub BYTES : ℕ
+BYTES = 26
+
+-- a message's own fixed part
+abbrev pub MESSAGE : ℕ
+MESSAGE = 27
+
 -- all of them
 abbrev pub answers : List ℕ
-answers = REFUSED ∷ KNOWN ∷ UNKNOWN ∷ VALID ∷ INVALID ∷ OPTION ∷ END ∷ STOPPED ∷ RECEIVED ∷ WRITTEN ∷ PREFIX ∷ CHAIN ∷ ROUTE ∷ IGNORED ∷ SERVERS ∷ PREFERENCE ∷ SUM ∷ UPDATED ∷ INDEXED ∷ FOUND ∷ NONE ∷ ACCEPTED ∷ «NOT_ACCEPTED» ∷ PLANNED ∷ []
+answers = REFUSED ∷ KNOWN ∷ UNKNOWN ∷ VALID ∷ INVALID ∷ OPTION ∷ END ∷ STOPPED ∷ RECEIVED ∷ WRITTEN ∷ PREFIX ∷ CHAIN ∷ ROUTE ∷ IGNORED ∷ SERVERS ∷ PREFERENCE ∷ SUM ∷ UPDATED ∷ INDEXED ∷ FOUND ∷ NONE ∷ ACCEPTED ∷ «NOT_ACCEPTED» ∷ PLANNED ∷ MTU ∷ BYTES ∷ MESSAGE ∷ []
 
 -- each number of a list above the one before it, the first above n: then no two are alike, and none is n
 abbrev pub rising : ℕ → List ℕ → Bool

@@ -48,3 +48,9 @@ pub const ACCEPTED: u32 = 22;
 pub const NOT_ACCEPTED: u32 = 23;
 
 pub const PLANNED: u32 = 24;
+
+pub const MTU: u32 = 25;
+
+pub const BYTES: u32 = 26;
+
+pub const MESSAGE: u32 = 27;

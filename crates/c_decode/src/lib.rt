@@ -10,15 +10,15 @@ use icmpv6_headers::neighbor_advertisement_header::NeighborAdvertisementHeader;
 use icmpv6_headers::router_advertisement_header::RouterAdvertisementHeader;
 use packet_length::PacketLength;
 
-// Type, code and checksum are wider than their bytes, so that the struct has no padding. `bytes5to8` is bytes 4 to 7 as they stand.
+// Type, code and checksum have the width of their bytes, and are what the writer takes. `bytes5to8` is bytes 4 to 7 as they stand.
 #[repr(C)]
 pub struct Head {
     pub answer: u32,
     pub refusal: u32,
     pub value: [u64; 5],
-    pub icmp_type: u32,
-    pub code: u32,
-    pub checksum: u32,
+    pub icmp_type: u8,
+    pub code: u8,
+    pub checksum: u16,
     pub bytes5to8: u32,
     pub field: [u32; 4],
 }
@@ -80,9 +80,9 @@ fn head_of(kind: u8, code: u8, packet: &[u8]) -> Head
             answer: c_answer::KNOWN,
             refusal: 0,
             value: [0, 0, 0, 0, 0],
-            icmp_type: kind as u32,
-            code: code as u32,
-            checksum: checksum as u32,
+            icmp_type: kind,
+            code,
+            checksum,
             bytes5to8: word,
             field,
         };
@@ -91,9 +91,9 @@ fn head_of(kind: u8, code: u8, packet: &[u8]) -> Head
         answer: c_answer::UNKNOWN,
         refusal: 0,
         value: [0, 0, 0, 0, 0],
-        icmp_type: kind as u32,
-        code: code as u32,
-        checksum: checksum as u32,
+        icmp_type: kind,
+        code,
+        checksum,
         bytes5to8: word,
         field: [word, 0, 0, 0],
     }

@@ -8,5 +8,13 @@ use c_updated::Updated;
 pub extern "C" fn brothladder_updated_checksum(packet: &[u8], place: usize, word: u16) -> Updated
     ensures { λ r. ⌜ r ≡ updatedFor (updatedOf (now (packet .entry)) place word) ⌝ }
 {
-    c_updated::told(checksum_update::updated_checksum(packet, place, word))
+    // Each arm is told by itself and returns: an answer is then written straight to where it goes (docs/BENCHMARKS.md).
+    match checksum_update::updated_checksum(packet, place, word) {
+        checksum_update::Updated::Field(field) => {
+            return c_updated::told(checksum_update::Updated::Field(field));
+        }
+        checksum_update::Updated::Refused(why) => {
+            return c_updated::told(checksum_update::Updated::Refused(why));
+        }
+    }
 }

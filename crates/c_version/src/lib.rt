@@ -2,11 +2,11 @@
 // header of another version does not link.
 ghost use mathlib.Core.Path.{_≡_};
 
-pub const VERSION: u32 = 5;
+pub const VERSION: u32 = 6;
 
 #[no_mangle]
-pub extern "C" fn brothladder_version_5() -> u32
-    ensures { λ r. ⌜ r ≡ 5 ⌝ }
+pub extern "C" fn brothladder_version_6() -> u32
+    ensures { λ r. ⌜ r ≡ 6 ⌝ }
 {
     VERSION
 }

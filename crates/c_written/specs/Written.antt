@@ -1,4 +1,5 @@
--- The packet writer for C: the header is that of the type, the code and bytes 4 to 7 as one number, and the answer the length that was written.
+-- The writers for C: a packet's header is that of the type, the code and bytes 4 to 7 as one number; the answer is the place behind what was written,
+-- which is its length where it was written at the start.
 -- Assumes nothing.
 use Prim.Native.Nat.{ℕ}
 use mathlib.Core.Bool.{cond}

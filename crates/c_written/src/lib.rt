@@ -1,4 +1,4 @@
-// What the calls that write a packet for C share: the header from its numbers, and the answer as numbers.
+// What the calls for C share that write: a packet's header from its numbers, and the answer as numbers.
 ghost use mathlib.Core.Path.{_≡_};
 ghost use Rattle.output.specs.Output.{writtenTold};
 ghost use Rattle.c_written.specs.Written.{headerOfWord, writtenFor};

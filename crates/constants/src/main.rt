@@ -42,6 +42,12 @@ fn say_value(value: Icmpv6Type) {
         Icmpv6Type::PacketTooBig { mtu: _ } => say(b" PacketTooBig"),
         Icmpv6Type::TimeExceeded(_) => say(b" TimeExceeded"),
         Icmpv6Type::ParameterProblem(_) => say(b" ParameterProblem"),
+        _ => say_other_value(value),
+    }
+}
+
+fn say_other_value(value: Icmpv6Type) {
+    match value {
         Icmpv6Type::EchoRequest(_) => say(b" EchoRequest"),
         Icmpv6Type::EchoReply(_) => say(b" EchoReply"),
         Icmpv6Type::RouterSolicitation => say(b" RouterSolicitation"),
@@ -49,6 +55,7 @@ fn say_value(value: Icmpv6Type) {
         Icmpv6Type::NeighborSolicitation => say(b" NeighborSolicitation"),
         Icmpv6Type::NeighborAdvertisement(_) => say(b" NeighborAdvertisement"),
         Icmpv6Type::Redirect => say(b" Redirect"),
+        _ => say(b" no other value"),
     }
 }
 
@@ -59,6 +66,12 @@ fn say_kind(kind: Icmpv6PayloadKind) {
         Icmpv6PayloadKind::PacketTooBig => say(b" PacketTooBig"),
         Icmpv6PayloadKind::TimeExceeded => say(b" TimeExceeded"),
         Icmpv6PayloadKind::ParameterProblem => say(b" ParameterProblem"),
+        _ => say_other_kind(kind),
+    }
+}
+
+fn say_other_kind(kind: Icmpv6PayloadKind) {
+    match kind {
         Icmpv6PayloadKind::EchoRequest => say(b" EchoRequest"),
         Icmpv6PayloadKind::EchoReply => say(b" EchoReply"),
         Icmpv6PayloadKind::RouterSolicitation => say(b" RouterSolicitation"),
@@ -66,6 +79,7 @@ fn say_kind(kind: Icmpv6PayloadKind) {
         Icmpv6PayloadKind::NeighborSolicitation => say(b" NeighborSolicitation"),
         Icmpv6PayloadKind::NeighborAdvertisement => say(b" NeighborAdvertisement"),
         Icmpv6PayloadKind::Redirect => say(b" Redirect"),
+        _ => say(b" no other kind"),
     }
 }
 
@@ -101,13 +115,16 @@ fn code(name: &[u8], number: u8, written: u8) {
     say(b"\n");
 }
 
-fn messages() {
+fn first_messages() {
     message(b"TYPE_DST_UNREACH", types::TYPE_DST_UNREACH);
     message(b"TYPE_PACKET_TOO_BIG", types::TYPE_PACKET_TOO_BIG);
     message(b"TYPE_TIME_EXCEEDED", types::TYPE_TIME_EXCEEDED);
     message(b"TYPE_PARAMETER_PROBLEM", types::TYPE_PARAMETER_PROBLEM);
     message(b"TYPE_ECHO_REQUEST", types::TYPE_ECHO_REQUEST);
     message(b"TYPE_ECHO_REPLY", types::TYPE_ECHO_REPLY);
+}
+
+fn listener_messages() {
     message(
         b"TYPE_MULTICAST_LISTENER_QUERY",
         types::TYPE_MULTICAST_LISTENER_QUERY,
@@ -120,6 +137,9 @@ fn messages() {
         b"TYPE_MULTICAST_LISTENER_REDUCTION",
         types::TYPE_MULTICAST_LISTENER_REDUCTION,
     );
+}
+
+fn neighbor_messages() {
     message(b"TYPE_ROUTER_SOLICITATION", types::TYPE_ROUTER_SOLICITATION);
     message(
         b"TYPE_ROUTER_ADVERTISEMENT",
@@ -134,6 +154,9 @@ fn messages() {
         types::TYPE_NEIGHBOR_ADVERTISEMENT,
     );
     message(b"TYPE_REDIRECT_MESSAGE", types::TYPE_REDIRECT_MESSAGE);
+}
+
+fn later_messages() {
     message(b"TYPE_ROUTER_RENUMBERING", types::TYPE_ROUTER_RENUMBERING);
     message(
         b"TYPE_INVERSE_NEIGHBOR_DISCOVERY_SOLICITATION",
@@ -289,7 +312,10 @@ fn main() {
         b"MAX_ICMPV6_BYTE_LEN",
         packet_length::MAX_ICMPV6_BYTE_LEN as u64,
     );
-    messages();
+    first_messages();
+    listener_messages();
+    neighbor_messages();
+    later_messages();
     unreachable_codes();
     exceeded_codes();
     problem_codes();

@@ -1,6 +1,6 @@
 -- A turn of the program: the piece is what the read put behind the bytes that are held, the text is what is handed to the write.
 -- Assumes nothing.
-use Prim.Native.Nat.{ℕ, _+_, _-_, _*_, _<_, _≤_}
+use Prim.Native.Nat.{ℕ, _+_, _-_, _*_, _^_, _<_, _≤_}
 use mathlib.Core.Path.{_≡_}
 use mathlib.Core.Bool.{true, false, cond}
 use mathlib.Core.List.{List, [], _++_}
@@ -22,12 +22,13 @@ piece buf′ s r = take (r .got .bytes) (drop (s .filled - s .at) buf′)
 abbrev pub sentText : List ℕ → State → List ℕ
 sentText out r = take (r .sent .bytes) out
 
--- a state is within the buffer; where bytes are wanted few are held, and the input has not ended
+-- a state is within the buffer; once its first byte is beyond place 2^62 nothing more is read (docs/RULES.md D10), and a read moves it on by 65,536
+-- bytes at most; where bytes are wanted few are held, and the input has not ended
 pub record Held (s : State) : Type 0 where
   pub inside : s .at ≤ s .filled
   pub room : s .filled ≤ 65536
   pub counted : s .count ≤ s .place + s .at
-  pub near : s .place ≤ 4611686018427453440
+  pub near : s .place ≤ 2 ^ 62 + 65536
   pub few : isHungry (s .stage) ≡ true → (s .filled ≤ s .at + longestCut) × (s .ended ≡ false)
 
 -- how far reading and listing are, and a bit more where bytes are wanted

@@ -74,6 +74,12 @@ fn say(text: &[u8]) {
     io::write_all(STDOUT_FILENO, text);
 }
 
+fn say_unless(met: bool, text: &[u8]) {
+    if !met {
+        say(text);
+    }
+}
+
 // Whether an option that was handed out is one of its own type, whatever that is, at the place that was told with it.
 fn is_option(option: &[u8], place: usize) -> bool {
     match unknown_option::from_slice(option, place) {
@@ -334,11 +340,42 @@ fn put_record(source: &[u8; 16], destination: &[u8; 16], packet: &[u8]) {
     }
 }
 
+// Says what a packet that was sent is not, as its header and its receivers see it.
+fn hold(
+    icmp_type: Icmpv6Type,
+    source: &[u8; 16],
+    destination: &[u8; 16],
+    payload: &[u8],
+    sent: &[u8],
+) {
+    say_unless(
+        is_as_made(icmp_type, source, destination, payload, sent),
+        b"another head\n",
+    );
+    say_unless(
+        is_as_updated(
+            Icmpv6Header::new(icmp_type),
+            source,
+            destination,
+            payload,
+            sent,
+        ),
+        b"another checksum\n",
+    );
+    say_unless(
+        is_passed_on(source, destination, payload, sent),
+        b"not passed on\n",
+    );
+    say_unless(
+        is_told_apart(icmp_type, source, destination, payload, sent),
+        b"reserved bits\n",
+    );
+}
+
 fn send(icmp_type: Icmpv6Type, source: &[u8; 16], destination: &[u8; 16], payload: &[u8]) {
     let mut packet = [0u8; 128];
-    let header = Icmpv6Header::new(icmp_type);
     match write_packet_clearing(
-        header,
+        Icmpv6Header::new(icmp_type),
         source,
         destination,
         payload,
@@ -347,21 +384,11 @@ fn send(icmp_type: Icmpv6Type, source: &[u8; 16], destination: &[u8; 16], payloa
     ) {
         Written::To(n) => {
             let sent = part(&packet, 0, n);
-            if !is_as_made(icmp_type, source, destination, payload, sent) {
-                say(b"another head\n");
-            }
-            if !is_as_updated(header, source, destination, payload, sent) {
-                say(b"another checksum\n");
-            }
-            if !is_passed_on(source, destination, payload, sent) {
-                say(b"not passed on\n");
-            }
-            if !is_told_apart(icmp_type, source, destination, payload, sent) {
-                say(b"reserved bits\n");
-            }
-            if !has_fixed_part(icmp_type.type_u8(), payload) {
-                say(b"no fixed part\n");
-            }
+            hold(icmp_type, source, destination, payload, sent);
+            say_unless(
+                has_fixed_part(icmp_type.type_u8(), payload),
+                b"no fixed part\n",
+            );
             receive(sent, source, destination);
         }
         Written::Refused(_) => say(b"not written\n"),
@@ -504,18 +531,19 @@ fn comes_back(packet: &[u8], mark: &[u8]) -> bool {
 // Packets on either side of the limit of the first mark, the longest, and one that no record holds.
 fn long_records() {
     let zeros = [0u8; MAX_PACKET_LEN + 1];
-    if !comes_back(part(&zeros, 0, MAX_SHORT_LEN), b"I6") {
-        say(b"not the first mark\n");
-    }
-    if !comes_back(part(&zeros, 0, MAX_SHORT_LEN + 1), b"I7") {
-        say(b"not the second mark\n");
-    }
-    if !comes_back(part(&zeros, 0, MAX_PACKET_LEN), b"I7") {
-        say(b"not the longest record\n");
-    }
-    if comes_back(&zeros, b"I7") {
-        say(b"a record that is too long\n");
-    }
+    say_unless(
+        comes_back(part(&zeros, 0, MAX_SHORT_LEN), b"I6"),
+        b"not the first mark\n",
+    );
+    say_unless(
+        comes_back(part(&zeros, 0, MAX_SHORT_LEN + 1), b"I7"),
+        b"not the second mark\n",
+    );
+    say_unless(
+        comes_back(part(&zeros, 0, MAX_PACKET_LEN), b"I7"),
+        b"not the longest record\n",
+    );
+    say_unless(!comes_back(&zeros, b"I7"), b"a record that is too long\n");
 }
 
 fn main() {

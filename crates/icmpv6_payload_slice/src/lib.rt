@@ -1,5 +1,5 @@
 // What a message is and where its parts are: dispatch of a payload by the value of its head, or of a packet by its bytes. Port of
-// icmpv6_payload_slice/mod.rs. Receive check, listing, writer and the calls for C open a message here and nowhere else.
+// icmpv6_payload_slice/mod.rs. Receive check, listing, writer, `diff` and the calls for C but the chain's open a message here and nowhere else.
 ghost use mathlib.Core.Path.{_≡_};
 ghost use Prim.Native.Nat.{_+_, _<_, _≤_};
 ghost use lib.ListN.{length, drop};

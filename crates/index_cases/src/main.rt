@@ -158,22 +158,29 @@ fn set_number(index: &mut [u32], at: usize, n: usize) {
     put_numbers(index, at, &[low as u32]);
 }
 
+// What changes nothing.
+fn show(list: &[u8], index: &[u32], what: usize, head: &[u8]) {
+    let entries = first(index, number(head, 2));
+    let b = number(head, 3);
+    match what {
+        3 => print_found(first_of_type(entries, type_of(b))),
+        4 => print_found(next_of_type(entries, type_of(b), number(head, 4))),
+        7 => show_numbers(entries),
+        8 => show_list(list, number(head, 2)),
+        _ => find_all(entries),
+    }
+}
+
 fn obey(list: &mut [u8], index: &mut [u32], head: &[u8], bytes: &[u8]) {
     let a = number(head, 2);
-    let b = number(head, 3);
-    let c = number(head, 4);
     match number(head, 0) {
         1 => build(index, a, bytes, edition_of(head)),
-        2 => grow(list, index, c, head, bytes),
-        3 => print_found(first_of_type(first(index, a), type_of(b))),
-        4 => print_found(next_of_type(first(index, a), type_of(b), c)),
+        2 => grow(list, index, number(head, 4), head, bytes),
         5 => {
             put(list, a, bytes);
         }
-        6 => set_number(index, a, b),
-        7 => show_numbers(first(index, a)),
-        8 => show_list(list, a),
-        _ => find_all(first(index, a)),
+        6 => set_number(index, a, number(head, 3)),
+        what => show(list, index, what, head),
     }
 }
 
@@ -197,10 +204,15 @@ fn obey_all(commands: &[u8], list: &mut [u8], index: &mut [u32]) {
     }
 }
 
-fn main() {
-    let mut space = [0u8; 524288];
+// A list and an index that hold nothing yet.
+fn obey_from_nothing(commands: &[u8]) {
     let mut list = [0u8; 4096];
     let mut index = [0u32; 160];
+    obey_all(commands, &mut list, &mut index);
+}
+
+fn main() {
+    let mut space = [0u8; 286720];
     let n = io::read_full(STDIN_FILENO, &mut space);
-    obey_all(&space[..n], &mut list, &mut index);
+    obey_from_nothing(&space[..n]);
 }

@@ -5,6 +5,7 @@ use mathlib.Core.Path.{_≡_, refl}
 use mathlib.Core.List.{List, [], _∷_, _++_}
 use lib.ListN.{replicate}
 use Rattle.paper.specs.Paper.{refuses, gives}
+use Rattle.wire.specs.Prefix.{begins}
 use Rattle.ndp_walk.specs.Judge.{judge}
 use Rattle.ndp_walk.specs.Walk.{walkOn, walkFrom}
 use Rattle.ndp_options.specs.Rule.{rule}
@@ -13,7 +14,7 @@ use Rattle.ndp_options.specs.declared.Edition.the-variants.{First}
 use Rattle.ndp_option_list.specs.Whole.{wholeOf, firstBy}
 use Rattle.ndp_option_index.specs.Entries.{entriesIn, numbersOf, firstIn, nextIn}
 use Rattle.ndp_option_index.specs.Index.{indexOf, builtOf, buildOf}
-use Rattle.ndp_option_index.specs.Append.{begins, isIndex, grownOf, appendOf, moreOf}
+use Rattle.ndp_option_index.specs.Append.{isIndex, grownOf, appendOf, moreOf}
 
 abbrev zeros : ℕ → List ℕ
 zeros n = replicate n 0

@@ -10,6 +10,7 @@ use Rattle.ndp_option.proofs.Paper.{mtu-lossless}
 use Rattle.ndp_option.proofs.mtu_option.MtuOption.from_slice as mtu
 use Rattle.ndp_option.proofs.redirected_header_option.from_slice as redirected
 use Rattle.ndp_option.proofs.redirected_header_option.redirected_packet as redirected-packet
+use Rattle.ndp_option.proofs.link_layer_address_option.LinkLayerAddressOption.of as of
 use Rattle.ndp_option.proofs.link_layer_address_option.LinkLayerAddressOption.option_type as option-type
 use Rattle.ndp_option.proofs.link_layer_address_option.LinkLayerAddressOption.from_slice as link-layer
 use Rattle.ndp_option.proofs.link_layer_address_option.LinkLayerAddressOption.link_layer_address as link-layer-address
@@ -24,6 +25,9 @@ redirected-unique M 𝓤 H A m f κs a g x y v w = one 𝓤 (λ p q. (read-lossl
 -- of the slice that is handed back, its bytes
 pub redirected-packet-unique : OnlyBy redirected-packet.ended (λ κs. now) (λ M 𝓤. redirected-packet.clauses 𝓤)
 redirected-packet-unique M 𝓤 H A m f κs a g x y v w = one 𝓤 (λ p q. (p ∙ sym q, refl))
+
+pub of-unique : Only of.ended (λ M 𝓤. of.clauses 𝓤)
+of-unique M 𝓤 H A m f κs a g x y v w = one 𝓤 (λ p q. (p ∙ sym q, refl))
 
 pub option-type-unique : Only option-type.ended (λ M 𝓤. option-type.clauses 𝓤)
 option-type-unique M 𝓤 H A m f κs a g x y v w = one 𝓤 (λ p q. (ap (λ (n : ℕ). record { 0 = n }) (p ∙ sym q), refl))

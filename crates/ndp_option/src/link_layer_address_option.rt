@@ -3,7 +3,7 @@
 ghost use mathlib.Core.Path.{_≡_};
 ghost use Rattle.packet_place.specs.Place.{placed};
 ghost use Rattle.ndp_option_read.specs.Rule.{readTold, sizedOf, partFrom};
-ghost use Rattle.ndp_option.specs.LinkLayer.{linkLayerType};
+ghost use Rattle.ndp_option.specs.LinkLayer.{linkLayerType, linkLayerOf};
 use ndp_option_read::NdpOptionRead;
 use refusal::NdpOptionType;
 
@@ -14,6 +14,16 @@ pub enum LinkLayerAddressOption {
 }
 
 impl LinkLayerAddressOption {
+    // The one of a number, as the calls for C have it: 2 is the target's, every other number the source's.
+    pub fn of(number: u32) -> Self
+        ensures { λ r. ⌜ r ≡ linkLayerOf number ⌝ }
+    {
+        match number {
+            2 => LinkLayerAddressOption::Target,
+            _ => LinkLayerAddressOption::Source,
+        }
+    }
+
     pub fn option_type(self) -> NdpOptionType
         ensures { λ r. ⌜ r .0 ≡ linkLayerType self ⌝ }
     {

@@ -1,27 +1,22 @@
 -- What appending to a list and its index answers, and what the two then hold (docs/RULES.md I6 to I8).
 -- Assumes nothing.
 use Prim.Native.Nat.{ℕ, _+_, _*_}
-use mathlib.Core.Bool.{Bool, true, false, cond}
+use mathlib.Core.Bool.{Bool, false, cond}
 use mathlib.Core.List.{List, [], _∷_}
 use lib.Dec.{ltb, eqb}
 use lib.ListN.{length, take}
 use Rattle.paper.specs.Paper.{Paper, refuses, gives, _orElse_}
+use Rattle.wire.specs.Prefix.{begins}
 use Rattle.ndp_options.specs.Walk.{walk}
 use Rattle.ndp_options.specs.declared.Edition.{Edition}
 use Rattle.ndp_option_list.specs.Whole.{countOf}
 use Rattle.ndp_option_index.specs.Index.{indexFrom, indexOf, most}
 
--- whether numbers begin with these
-unfoldable pub begins : List ℕ → List ℕ → Bool
-begins l [] = true
-begins [] (x ∷ xs) = false
-begins (y ∷ l) (x ∷ xs) = cond (eqb y x) (begins l xs) false
-
 -- whether the first n entries of a buffer are the index that a list builds: a list of more than 64 options builds none
 unfoldable pub isIndex : Edition → List ℕ → List ℕ → ℕ → Bool
 isIndex e s index n =
     cond (ltb most (length (walk e s .items))) false
-    (cond (eqb n (length (walk e s .items))) (begins index (indexOf e s)) false)
+    (cond (eqb n (length (walk e s .items))) (begins (indexOf e s) index) false)
 
 -- the walk's own refusal of the list, then 23 where the index is not its own
 abbrev pub matchedOf : Edition → List ℕ → List ℕ → ℕ → Paper

@@ -5,13 +5,14 @@ ghost use mathlib.Core.Bool.{Bool, true, false, cond};
 ghost use Prim.Native.Nat.{_+_, _*_, _≤_};
 ghost use mathlib.Core.List.{[], _∷_};
 ghost use lib.ListN.{length, drop};
+ghost use Rattle.wire.specs.Prefix.{begins};
 ghost use Rattle.packet_length.specs.Length.{limit};
 ghost use Rattle.output.specs.Output.{over, leaves};
 ghost use Rattle.ndp_options.specs.Walk.{walk};
 ghost use Rattle.ndp_option_index.specs.Entries.{entry, entriesIn, asked, placeBy, firstIn, nextIn};
 ghost use Rattle.ndp_option_index.specs.Index.{indexFrom, indexOf, buildOf};
 ghost use Rattle.ndp_option_index.specs.Told.{foundTold, indexedTold, matchedTold, grownTold};
-ghost use Rattle.ndp_option_index.specs.Append.{begins, matchedOf, grownOf, appendOf, moreOf};
+ghost use Rattle.ndp_option_index.specs.Append.{matchedOf, grownOf, appendOf, moreOf};
 use ndp_option_list::Counted;
 use ndp_option_list::count;
 use ndp_options::Cursor;
@@ -139,7 +140,7 @@ pub fn build_index(options: &[u8], index: &mut [u32], edition: Edition) -> Index
 
 // Whether this entry stands in the index from a number on.
 fn entry_is(index: &[u32], k: usize, id: NdpOptionType, at: usize) -> bool
-    ensures { λ r. ⌜ r ≡ begins (drop k (now (index .entry))) (id .0 ∷ at ∷ []) ⌝ }
+    ensures { λ r. ⌜ r ≡ begins (id .0 ∷ at ∷ []) (drop k (now (index .entry))) ⌝ }
 {
     if index.len() < k {
         return false;

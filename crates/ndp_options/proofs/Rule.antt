@@ -1,31 +1,28 @@
 -- The types' rule (docs/RULES.md W4) at the head of a rest, in each edition: it looks at the type and the length, and of a route at two bytes more.
 -- Assumes nothing.
-use Prim.Native.Nat.{ℕ, zero, suc, _/_, _%_, _≤_, _<_}
+use Prim.Native.Nat.{ℕ, zero, suc, _≤_, _<_}
 use mathlib.Core.Path.{_≡_, refl, subst, sym, ap, _∙_}
-use mathlib.Core.Bool.{Bool, true, false, cond, _&&_, _||_}
+use mathlib.Core.Bool.{Bool, true, false, cond}
 use mathlib.Core.List.{List, [], _∷_}
 use native.Mathlib.Omega.{arith}
-use native.Mathlib.Decide.{decLe, ℕ-discrete}
-use lib.Dec.{ltb, leb, eqb, lit≤}
+use native.Mathlib.Decide.{decLe}
+use lib.Dec.{eqb, lit≤}
 use lib.ListN.{length, getD, take}
 use lib.Seq.{length-take-le, getD-take}
-use borrow.Author.Tests.{lt-ltb, le-ltb, eq-eqb, ne-eqb}
+use borrow.Author.Tests.{lt-ltb, le-ltb}
 use Rattle.paper.specs.Paper.{Paper, refuses}
-use Rattle.router_preference.specs.Preference.{isReserved}
 use Rattle.ndp_option_header.specs.Header.{unitBytes}
 use Rattle.ndp_walk.specs.Judge.{Ruling, Fits, Misfits, Bad, Good, ruled, judge}
 use Rattle.ndp_walk.specs.Laws.{Numbered}
 use Rattle.ndp_walk.proofs.Judging.{known, empty, cut, whole}
 use Rattle.ndp_options.specs.Rule.{optionKind, askedOf, ruleOf, rule}
-use Rattle.ndp_options.specs.Second.{neededFor, routeRule, serversRule, secondOf, second}
-use Rattle.ndp_options.specs.Newer.{newerFits, newerKind, isLong, newerAsked, newerOf}
-use Rattle.ndp_options.specs.Editions.{ruleBy, asksMore}
-use Rattle.ndp_options.specs.Told.{optionKindNumber}
+use Rattle.ndp_options.specs.Second.{secondOf, second}
+use Rattle.ndp_options.specs.Newer.{asksMore, newerFits, newerKind, isLong, newerAsked, newerOf}
+use Rattle.ndp_options.specs.Editions.{ruleBy}
 use Rattle.ndp_options.specs.declared.Edition.{Edition}
 use Rattle.ndp_options.specs.declared.Edition.the-variants.{First, Second}
-use Rattle.ndp_options.specs.declared.NdpOptionKind.{NdpOptionKind}
-use Rattle.ndp_options.specs.declared.NdpOptionKind.the-variants.{Unknown, SourceLinkLayerAddress, TargetLinkLayerAddress, PrefixInformation, RedirectedHeader, Mtu, RouteInformation, RecursiveDnsServers}
-use Rattle.ndp_options.proofs.Newer.{route-newer, servers-newer}
+use Rattle.ndp_options.specs.declared.NdpOptionKind.the-variants.{Unknown, SourceLinkLayerAddress, TargetLinkLayerAddress, PrefixInformation, RedirectedHeader, Mtu}
+use Rattle.ndp_options.proofs.Newer.{KindOf, second-newer, second-first, long-means, newer-named}
 
 -- ---- what a rule refuses
 -- its refusals: 5 with the option's size; and 18, in the second edition alone, of a route of at most three units whose prefix length is above 128
@@ -44,35 +41,22 @@ module _ (ed : Edition) (o : List ℕ) {why : Paper} where
       go true q = absurd (let z : _≡_ {A = ℕ} 0 1 = cc in omega arith)
       go false q = is (by-size _ _) q
 
-  route-misfits : ed ≡ Second → getD o 0 0 ≡ 24 → routeRule (length o) (getD o 2 0) (getD o 3 0) ≡ Misfits why → Misfit ed o why
-  route-misfits s t q = elim (decLe (length o) 24) [
-    | no h ↦ is (by-size _ _) (simp (lt-ltb 24 (length o) (omega arith)) at q)
-    | yes h ↦ elim (decLe (getD o 2 0) 128) [
-      | no g ↦ is (by-prefix s t h (omega arith)) (simp (le-ltb 24 (length o) h, lt-ltb 128 (getD o 2 0) (omega arith)) at q)
-      | yes g ↦ elim (decLe (neededFor (getD o 2 0)) (length o)) [
-        | no f ↦ is (by-size _ _) (simp (le-ltb 24 (length o) h, le-ltb 128 (getD o 2 0) g, lt-ltb (length o) (neededFor (getD o 2 0)) (omega arith)) at q)
-        | yes f ↦ absurd (let r = simp (le-ltb 24 (length o) h, le-ltb 128 (getD o 2 0) g, le-ltb (length o) (neededFor (getD o 2 0)) f) at q in let z : _≡_ {A = ℕ} 0 1 = cc in omega arith)
-      ]
-    ]
-  ]
-
-  servers-misfits : serversRule (length o) ≡ Misfits why → Misfit ed o why
-  servers-misfits q = go (leb 24 (length o) && eqb (length o / 8 % 2) 1) q
+  newer-misfits : ed ≡ Second → newerOf (getD o 0 0) (length o) (getD o 2 0) (getD o 3 0) ≡ Misfits why → Misfit ed o why
+  newer-misfits s q = go (newerFits (getD o 0 0) (length o) (getD o 2 0)) (isLong (getD o 0 0) (length o) (getD o 2 0)) refl q
     where
-      go : (b : Bool) → cond b (Fits 25) (Misfits (refuses 5 (25 ∷ 24 ∷ length o ∷ []))) ≡ Misfits why → Misfit ed o why
-      go true q = absurd (let z : _≡_ {A = ℕ} 0 1 = cc in omega arith)
-      go false q = is (by-size _ _) q
+      go : (a b : Bool) → isLong (getD o 0 0) (length o) (getD o 2 0) ≡ b → cond a (Fits (newerKind (getD o 0 0) (getD o 3 0))) (cond b (Misfits (refuses 18 [])) (Misfits (refuses 5 (getD o 0 0 ∷ newerAsked (getD o 0 0) (length o) (getD o 2 0) ∷ length o ∷ [])))) ≡ Misfits why → Misfit ed o why
+      go true b l q = absurd (let z : _≡_ {A = ℕ} 0 1 = cc in omega arith)
+      go false true l q = let m = long-means (getD o 0 0) (length o) (getD o 2 0) l in is (by-prefix s (m .0) (m .1) (m .2)) q
+      go false false l q = is (by-size _ _) q
 
 pub misfits : (ed : Edition) (o : List ℕ) (why : Paper) → ruleBy ed o ≡ Misfits why → Misfit ed o why
 unfolding ruleBy rule second
 misfits First o why q = first-misfits First o (getD o 0 0) q
-misfits Second o why q = elim (ℕ-discrete (getD o 0 0) 24) [
-  | yes t ↦ route-misfits Second o refl t (simp (eq-eqb (getD o 0 0) 24 t) at q)
-  | no t ↦ elim (ℕ-discrete (getD o 0 0) 25) [
-    | yes u ↦ servers-misfits Second o (simp (ne-eqb (getD o 0 0) 24 t, eq-eqb (getD o 0 0) 25 u) at q)
-    | no u ↦ first-misfits Second o (getD o 0 0) (simp (ne-eqb (getD o 0 0) 24 t, ne-eqb (getD o 0 0) 25 u) at q)
-  ]
-]
+misfits Second o why q = by (asksMore Second (getD o 0 0)) refl
+  where
+    by : (b : Bool) → asksMore Second (getD o 0 0) ≡ b → Misfit Second o why
+    by true a = newer-misfits Second o refl (sym (second-newer (getD o 0 0) (length o) (getD o 2 0) (getD o 3 0) a) ∙ q)
+    by false a = first-misfits Second o (getD o 0 0) (sym (second-first (getD o 0 0) (length o) (getD o 2 0) (getD o 3 0) a) ∙ q)
 
 pub numbered : (ed : Edition) → Numbered (ruleBy ed)
 numbered ed o why q = go (misfits ed o why q)
@@ -82,10 +66,6 @@ numbered ed o why q = go (misfits ed o why q)
     go (by-prefix s t f g) = lit≤ tt
 
 -- ---- what a rule hands out
--- a number that a kind has
-abbrev pub KindOf : ℕ → Type 0
-KindOf k = (x : NdpOptionKind) × (optionKindNumber x ≡ k)
-
 few : (k : ℕ) → k ≤ 5 → KindOf k
 few zero h = (Unknown, refl)
 few (suc zero) h = (SourceLinkLayerAddress, refl)
@@ -112,34 +92,23 @@ module _ {k : ℕ} where
       go true q = same-kind of q
       go false q = absurd (let z : _≡_ {A = ℕ} 0 1 = cc in omega arith)
 
-  route-kind : (len prefix flags : ℕ) → routeRule len prefix flags ≡ Fits k → KindOf k
-  route-kind len prefix flags q = go (ltb 24 len) (ltb 128 prefix) (ltb len (neededFor prefix)) (isReserved flags) q
+  newer-kind : (type len prefix flags : ℕ) → newerOf type len prefix flags ≡ Fits k → KindOf k
+  newer-kind type len prefix flags q = go (newerFits type len prefix) (isLong type len prefix) q
     where
-      go : (a b c d : Bool) → cond a (Misfits (refuses 5 (24 ∷ 24 ∷ len ∷ []))) (cond b (Misfits (refuses 18 [])) (cond c (Misfits (refuses 5 (24 ∷ neededFor prefix ∷ len ∷ []))) (Fits (cond d 0 24)))) ≡ Fits k → KindOf k
-      go true b c d q = absurd (let z : _≡_ {A = ℕ} 0 1 = cc in omega arith)
-      go false true c d q = absurd (let z : _≡_ {A = ℕ} 0 1 = cc in omega arith)
-      go false false true d q = absurd (let z : _≡_ {A = ℕ} 0 1 = cc in omega arith)
-      go false false false true q = same-kind (Unknown, refl) q
-      go false false false false q = same-kind (RouteInformation, refl) q
-
-  servers-kind : (len : ℕ) → serversRule len ≡ Fits k → KindOf k
-  servers-kind len q = go (leb 24 len && eqb (len / 8 % 2) 1) q
-    where
-      go : (b : Bool) → cond b (Fits 25) (Misfits (refuses 5 (25 ∷ 24 ∷ len ∷ []))) ≡ Fits k → KindOf k
-      go true q = same-kind (RecursiveDnsServers, refl) q
-      go false q = absurd (let z : _≡_ {A = ℕ} 0 1 = cc in omega arith)
+      go : (a b : Bool) → cond a (Fits (newerKind type flags)) (cond b (Misfits (refuses 18 [])) (Misfits (refuses 5 (type ∷ newerAsked type len prefix ∷ len ∷ [])))) ≡ Fits k → KindOf k
+      go true b q = same-kind (newer-named type flags) q
+      go false true q = absurd (let z : _≡_ {A = ℕ} 0 1 = cc in omega arith)
+      go false false q = absurd (let z : _≡_ {A = ℕ} 0 1 = cc in omega arith)
 
 -- each kind that is handed out has a name
 pub named : (ed : Edition) (o : List ℕ) (k : ℕ) → ruleBy ed o ≡ Fits k → KindOf k
 unfolding ruleBy rule second
 named First o k q = first-kind (getD o 0 0) (length o) q
-named Second o k q = elim (ℕ-discrete (getD o 0 0) 24) [
-  | yes t ↦ route-kind (length o) (getD o 2 0) (getD o 3 0) (simp (eq-eqb (getD o 0 0) 24 t) at q)
-  | no t ↦ elim (ℕ-discrete (getD o 0 0) 25) [
-    | yes u ↦ servers-kind (length o) (simp (ne-eqb (getD o 0 0) 24 t, eq-eqb (getD o 0 0) 25 u) at q)
-    | no u ↦ first-kind (getD o 0 0) (length o) (simp (ne-eqb (getD o 0 0) 24 t, ne-eqb (getD o 0 0) 25 u) at q)
-  ]
-]
+named Second o k q = by (asksMore Second (getD o 0 0)) refl
+  where
+    by : (b : Bool) → asksMore Second (getD o 0 0) ≡ b → KindOf k
+    by true a = newer-kind (getD o 0 0) (length o) (getD o 2 0) (getD o 3 0) (sym (second-newer (getD o 0 0) (length o) (getD o 2 0) (getD o 3 0) a) ∙ q)
+    by false a = first-kind (getD o 0 0) (length o) (sym (second-first (getD o 0 0) (length o) (getD o 2 0) (getD o 3 0) a) ∙ q)
 
 -- ---- the rule as the code applies it
 -- by an option's type and length, and bytes 2 and 3 of it
@@ -150,22 +119,11 @@ rulingOf Second type len prefix flags = secondOf type len prefix flags
 -- where the edition has a rule of its own, and where not
 asked-more : (ed : Edition) (type len prefix flags : ℕ) → asksMore ed type ≡ true → rulingOf ed type len prefix flags ≡ newerOf type len prefix flags
 asked-more First type len prefix flags q = absurd (let z : _≡_ {A = ℕ} 0 1 = cc in omega arith)
-asked-more Second type len prefix flags q = elim (ℕ-discrete type 24) [
-  | yes t ↦ rw t (route-newer len prefix flags)
-  | no t ↦ elim (ℕ-discrete type 25) [
-    | yes u ↦ rw u (servers-newer len prefix flags)
-    | no u ↦ absurd (let r = simp (ne-eqb type 24 t, ne-eqb type 25 u) at q in let z : _≡_ {A = ℕ} 0 1 = cc in omega arith)
-  ]
-]
+asked-more Second type len prefix flags q = second-newer type len prefix flags q
 
 asked-no-more : (ed : Edition) (type len prefix flags : ℕ) → asksMore ed type ≡ false → rulingOf ed type len prefix flags ≡ ruleOf type len
 asked-no-more First type len prefix flags q = refl
-asked-no-more Second type len prefix flags q = go (eqb type 24) (eqb type 25) q
-  where
-    go : (a b : Bool) → a || b ≡ false → cond a (routeRule len prefix flags) (cond b (serversRule len) (ruleOf type len)) ≡ ruleOf type len
-    go true b q = absurd (let z : _≡_ {A = ℕ} 0 1 = cc in omega arith)
-    go false true q = absurd (let z : _≡_ {A = ℕ} 0 1 = cc in omega arith)
-    go false false q = refl
+asked-no-more Second type len prefix flags q = second-first type len prefix flags q
 
 -- the judgement at the head of a rest, from the units and the length that were read there
 module _ (ed : Edition) (l : List ℕ) {units len : ℕ} (is : units ≡ getD l 1 0) (long : len ≡ unitBytes units) where

@@ -1,25 +1,27 @@
 -- What the second edition takes, the first takes too: the types that the second asks more of are unknown to the first.
 -- Assumes nothing.
-use Prim.Native.Nat.{ℕ}
-use mathlib.Core.Path.{_≡_, refl, sym}
+use Prim.Native.Nat.{ℕ, _<_}
+use mathlib.Core.Path.{_≡_, refl, _∙_}
 use mathlib.Core.Bool.{Bool, true, false, cond}
 use mathlib.Core.List.{List, [], _∷_, _++_, map}
 use native.Mathlib.Omega.{arith}
-use native.Mathlib.Decide.{ℕ-discrete}
 use lib.Dec.{eqb, ltb}
 use lib.ListN.{length, getD}
-use borrow.Author.Tests.{eq-eqb, ne-eqb}
+use borrow.Author.Tests.{eq-eqb, ne-eqb, lt-ltb}
 use Rattle.paper.specs.Paper.{refuses}
 use Rattle.ndp_walk.specs.Judge.{Fits, Misfits}
 use Rattle.ndp_walk.specs.Editions.{Coarser}
 use Rattle.ndp_options.specs.Rule.{rule, ruleOf, optionKind, askedOf}
 use Rattle.ndp_options.specs.Second.{second}
+use Rattle.ndp_options.specs.Newer.{asksMore}
 use Rattle.ndp_options.specs.Editions.{shownFirst}
+use Rattle.ndp_options.specs.declared.Edition.the-variants.{Second}
+use Rattle.ndp_options.proofs.Newer.{second-first, above-five}
 
--- the first edition hands out every option of a type that it does not know
-as-it-stands : (type len : ℕ) → (5 ≡ type → ⊥) → (3 ≡ type → ⊥) → ruleOf type len ≡ Fits (optionKind type)
-as-it-stands type len five three =
-    rw (ne-eqb type 3 (λ e. three (sym e)), ne-eqb type 5 (λ e. five (sym e)), eq-eqb len len refl)
+-- the first edition hands out every option of a type above 5 as unknown
+as-it-stands : (type len : ℕ) → 5 < type → ruleOf type len ≡ Fits 0
+as-it-stands type len h =
+    rw (ne-eqb type 3 (λ e. omega arith), ne-eqb type 5 (λ e. omega arith), eq-eqb len len refl, lt-ltb 5 type h)
 
 -- a kind of the first rule is shown as it is
 own : (o : List ℕ) (k : ℕ) → rule o ≡ Fits k → rule o ≡ Fits (shownFirst (getD o 0 0) k)
@@ -35,16 +37,14 @@ own o k e = go (eqb (length o) (askedOf (getD o 0 0) (length o))) e
     go false e = absurd (let z : _≡_ {A = ℕ} 0 1 = cc in omega arith)
 
 -- of any other type the two rules are one
-pub same-rule : (o : List ℕ) → (getD o 0 0 ≡ 24 → ⊥) → (getD o 0 0 ≡ 25 → ⊥) → second o ≡ rule o
+pub same-rule : (o : List ℕ) → asksMore Second (getD o 0 0) ≡ false → second o ≡ rule o
 unfolding second rule
-same-rule o t u = rw (ne-eqb (getD o 0 0) 24 t, ne-eqb (getD o 0 0) 25 u)
+same-rule o a = second-first (getD o 0 0) (length o) (getD o 2 0) (getD o 3 0) a
 
 pub coarser : Coarser shownFirst rule second
 unfolding rule
-coarser o k e = elim (ℕ-discrete (getD o 0 0) 24) [
-  | yes t ↦ rw t (as-it-stands 24 (length o) (λ z. omega arith) (λ z. omega arith))
-  | no t ↦ elim (ℕ-discrete (getD o 0 0) 25) [
-    | yes u ↦ rw u (as-it-stands 25 (length o) (λ z. omega arith) (λ z. omega arith))
-    | no u ↦ own o k (rw (same-rule o t u) at e)
-  ]
-]
+coarser o k e = by (asksMore Second (getD o 0 0)) refl
+  where
+    by : (b : Bool) → asksMore Second (getD o 0 0) ≡ b → rule o ≡ Fits (shownFirst (getD o 0 0) k)
+    by true a = let h = above-five (getD o 0 0) a in as-it-stands (getD o 0 0) (length o) h ∙ rw (lt-ltb 5 (getD o 0 0) h)
+    by false a = own o k (rw (same-rule o a) at e)

@@ -1,7 +1,7 @@
 -- The edition picks the rule, and nothing else knows it.
 -- Assumes nothing.
 use Prim.Native.Nat.{ℕ}
-use mathlib.Core.Bool.{Bool, false, cond, _||_}
+use mathlib.Core.Bool.{cond}
 use lib.Dec.{ltb, eqb}
 use Rattle.ndp_walk.specs.Judge.{Rule}
 use Rattle.ndp_options.specs.Rule.{rule}
@@ -12,11 +12,6 @@ use Rattle.ndp_options.specs.declared.Edition.the-variants.{First, Secon
 unfoldable pub ruleBy : Edition → Rule
 ruleBy First = rule
 ruleBy Second = second
-
--- whether an edition has a rule of its own for a type
-abbrev pub asksMore : Edition → ℕ → Bool
-asksMore First type = false
-asksMore Second type = eqb type 24 || eqb type 25
 
 -- of a number: 2 is the second, every other the first
 abbrev pub editionOf : ℕ → Edition

@@ -2,12 +2,19 @@
 -- that of specs/Second.antt.
 -- Assumes nothing.
 use Prim.Native.Nat.{ℕ, _+_, _*_, _/_, _%_}
-use mathlib.Core.Bool.{Bool, cond, _&&_}
+use mathlib.Core.Bool.{Bool, false, cond, _&&_, _||_}
 use mathlib.Core.List.{[], _∷_}
 use lib.Dec.{ltb, leb, eqb}
 use Rattle.paper.specs.Paper.{refuses}
 use Rattle.ndp_walk.specs.Judge.{Ruling, Fits, Misfits}
 use Rattle.router_preference.specs.Preference.{isReserved}
+use Rattle.ndp_options.specs.declared.Edition.{Edition}
+use Rattle.ndp_options.specs.declared.Edition.the-variants.{First, Second}
+
+-- whether an edition has a rule of its own for a type
+abbrev pub asksMore : Edition → ℕ → Bool
+asksMore First type = false
+asksMore Second type = eqb type 24 || eqb type 25
 
 -- a unit, and one for every 64 bits of the prefix
 abbrev pub routeBytes : ℕ → ℕ

@@ -23,6 +23,7 @@ use Rattle.ndp_options.specs.Editions.{ruleBy}
 use Rattle.ndp_options.specs.Walk.{walk}
 use Rattle.ndp_options.specs.declared.Edition.{Edition}
 use Rattle.ndp_options.specs.declared.Edition.the-variants.{First, Second}
+use Rattle.ndp_options.proofs.Newer.{no-more}
 use Rattle.ndp_options.proofs.Second.{same-rule}
 use Rattle.ndp_options.proofs.Laws.{options-clean}
 use Rattle.ndp_option_read.proofs.Rules.{exactly-accepts}
@@ -35,9 +36,9 @@ use Rattle.prefix_information.specs.Prefix.{bytesOf}
 use Rattle.option_writer.specs.Options.{mtuBytes, linkLayerBytes}
 
 -- what putting some bytes promises, said of the option that they are
-pub put-as : {p : Paper} {left : List ℕ} (out b o : List ℕ) (n : ℕ) → b ≡ o → length b ≡ n → p ≡ roomFor (length b) out 0 → left ≡ leaves (roomFor (length b) out 0) out 0 b
-    → (p ≡ roomFor n out 0) × (left ≡ leaves (roomFor n out 0) out 0 o)
-put-as out b o n e l p q = rw (← l, ← e) (p, q)
+pub put-as : {p : Paper} {left : List ℕ} (out : List ℕ) (at : ℕ) (b o : List ℕ) (n : ℕ) → b ≡ o → length b ≡ n → p ≡ roomFor (length b) out at → left ≡ leaves (roomFor (length b) out at) out at b
+    → (p ≡ roomFor n out at) × (left ≡ leaves (roomFor n out at) out at o)
+put-as out at b o n e l p q = rw (← l, ← e) (p, q)
 
 -- a list of six is its elements
 pub six : (a : List ℕ) → length a ≡ 6 → getD a 0 0 ∷ getD a 1 0 ∷ getD a 2 0 ∷ getD a 3 0 ∷ getD a 4 0 ∷ getD a 5 0 ∷ [] ≡ a
@@ -62,7 +63,7 @@ module _ {kind : ℕ} {o : List ℕ} (is : Option kind o) where
   taken : (ed : Edition) → ruleBy ed o ≡ Fits kind
   unfolding ruleBy
   taken First = is .fits
-  taken Second = same-rule o (λ e. omega (arith, is .known)) (λ e. omega (arith, is .known)) ∙ is .fits
+  taken Second = same-rule o (no-more (getD o 0 0) (omega (arith, is .known))) ∙ is .fits
 
   walked : (ed : Edition) → walk ed o ≡ alone kind o
   walked ed =

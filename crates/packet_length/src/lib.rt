@@ -1,4 +1,4 @@
-// Refusals 1 and 2: every call that takes a whole packet first tests its length with this one (docs/RULES.md H4).
+// Refusals 1 and 2: every call that reads a whole packet first tests its length with this one (docs/RULES.md H4).
 ghost use mathlib.Core.Path.{_≡_};
 ghost use mathlib.Core.List.{[]};
 ghost use Rattle.paper.specs.Paper.{gives};

@@ -64,12 +64,15 @@ abbrev Next : ℕ → (ℕ → List ℕ → Paper) → (ℕ → List ℕ → Pap
 Next n f g = (place at : ℕ) (s : List ℕ) → f place s ≡ refuses 17 (at ∷ []) → g place s .number ≡ 0 → Has n at (g place s .values)
 
 -- numbers in front of a refusal are not told, and those of a chain are
-after-refuses : (l v : List ℕ) (p : Paper) → after l p ≡ refuses 17 v → p ≡ refuses 17 v
-after-refuses l v p e = go (eqb (p .number) 0) e
+pub after-kept : (l : List ℕ) (p : Paper) → 0 < after l p .number → after l p ≡ p
+after-kept l p h = by (eqb (p .number) 0) h
   where
-    go : (b : Bool) → cond b (gives (l ++ p .values)) p ≡ refuses 17 v → p ≡ refuses 17 v
-    go true q = absurd (let z : _≡_ {A = ℕ} 0 17 = ap (λ (x : Paper). x .number) q in omega arith)
-    go false q = q
+    by : (b : Bool) → 0 < cond b (gives (l ++ p .values)) p .number → cond b (gives (l ++ p .values)) p ≡ p
+    by true h = absurd (omega arith)
+    by false h = refl
+
+after-refuses : (l v : List ℕ) (p : Paper) → after l p ≡ refuses 17 v → p ≡ refuses 17 v
+after-refuses l v p e = sym (after-kept l p (let z : after l p .number ≡ 17 = ap (λ (x : Paper). x .number) e in omega arith)) ∙ e
 
 module _ (ed : Edition) where
   message-next : (n : ℕ) (f g : ℕ → List ℕ → Paper) → Next n f g → Next (suc n) (messageBy ed f) (messageBy ed g)

@@ -37,9 +37,9 @@ toldWith p c = record { paper = p; chain = c }
 abbrev pub chainTold : ChainRead → ChainTold
 chainTold r = toldWith (answerTold (r .answer) (r .chain)) (r .chain)
 
--- a chain of these numbers, and 0 behind them
+-- a chain of these numbers, and 0 behind them: as many as eight levels have (docs/RULES.md Q10, Q11)
 abbrev pub chainWith : List ℕ → Chain
-chainWith v = record { levels = length v / 3; numbers = v ++ drop (length v) (replicate 25 0) }
+chainWith v = record { levels = length v / 3; numbers = v ++ drop (length v) (replicate (1 + 3 * 8) 0) }
 
 -- by the answer: the chain's numbers beside it, and of a refusal no numbers, so that all are 0
 abbrev pub chainBy : Paper → ChainTold

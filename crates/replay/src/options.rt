@@ -54,7 +54,7 @@ pub(crate) fn header_bytes(input: &[u8]) -> Told {
 }
 
 fn information_told(p: PrefixInformation, place: usize) -> Told {
-    let b = p.prefix;
+    let prefix = p.prefix;
     Told {
         count: 11,
         values: [
@@ -64,10 +64,10 @@ fn information_told(p: PrefixInformation, place: usize) -> Told {
             numbers::flag(p.autonomous_address_configuration),
             p.valid_lifetime as u64,
             p.preferred_lifetime as u64,
-            numbers::long(b[0], b[1], b[2], b[3]),
-            numbers::long(b[4], b[5], b[6], b[7]),
-            numbers::long(b[8], b[9], b[10], b[11]),
-            numbers::long(b[12], b[13], b[14], b[15]),
+            long_from(&prefix, 0),
+            long_from(&prefix, 4),
+            long_from(&prefix, 8),
+            long_from(&prefix, 12),
             place as u64,
             0,
         ],
@@ -99,6 +99,16 @@ fn bytes_from(s: &[u8], place: usize) -> [u8; 32] {
 
 fn byte_at(s: &[u8], i: usize) -> u8 {
     if i < s.len() { s[i] } else { 0 }
+}
+
+// Four bytes from a place on, as one number.
+fn long_from(s: &[u8], place: usize) -> u64 {
+    numbers::long(
+        byte_at(s, place),
+        byte_at(s, std::num::wrapping_add_usize(place, 1)),
+        byte_at(s, std::num::wrapping_add_usize(place, 2)),
+        byte_at(s, std::num::wrapping_add_usize(place, 3)),
+    )
 }
 
 pub(crate) fn prefix_from_bytes(input: &[u8], offset: usize) -> Told {
@@ -144,14 +154,14 @@ pub(crate) fn prefix_to_bytes(input: &[u8]) -> Told {
         count: 9,
         values: [
             0,
-            numbers::long(0, b[1], b[2], b[3]),
-            numbers::long(b[4], b[5], b[6], b[7]),
-            numbers::long(b[8], b[9], b[10], b[11]),
-            numbers::long(b[12], b[13], b[14], b[15]),
-            numbers::long(b[16], b[17], b[18], b[19]),
-            numbers::long(b[20], b[21], b[22], b[23]),
-            numbers::long(b[24], b[25], b[26], b[27]),
-            numbers::long(b[28], b[29], b[30], b[31]),
+            long_from(&b, 0) % 16777216,
+            long_from(&b, 4),
+            long_from(&b, 8),
+            long_from(&b, 12),
+            long_from(&b, 16),
+            long_from(&b, 20),
+            long_from(&b, 24),
+            long_from(&b, 28),
             0,
             0,
             0,

@@ -1,4 +1,4 @@
-// Sums of bytes that lie in several parts (docs/RULES.md U6 to U9): two sums added, the sums of two parts joined, and a sum that walks from part to part.
+// Sums of bytes that lie in several parts (docs/RULES.md U8 to U10): two sums added, the sums of two parts joined, and a sum that walks from part to part.
 ghost use mathlib.Core.Path.{_≡_};
 ghost use mathlib.Core.List.{[]};
 ghost use Rattle.checksum.specs.Ones.{_⊕_, onesSum};

@@ -71,31 +71,27 @@ fn print_numbers(plan: &[u32]) {
     }
 }
 
-// Whether an advertisement with these options, as the packet writer writes it, passes the receive check.
-fn is_received(options: &[u8]) -> bool {
-    let mut payload = [0u8; 4096];
+// Whether an advertisement with this payload, as the packet writer writes it, passes the receive check.
+fn is_sent(payload: &[u8]) -> bool {
     let mut packet = [0u8; 4096];
-    let Written::To(n) = output::put(&mut payload, 8, options) else {
-        return false;
-    };
     let header = Icmpv6Header::new(Icmpv6Type::RouterAdvertisement(RouterAdvertisementHeader {
         cur_hop_limit: 64,
         managed_address_config: false,
         other_config: false,
         router_lifetime: 1800,
     }));
-    let Written::To(m) = write_packet_clearing(
+    let Written::To(n) = write_packet_clearing(
         header,
         &ROUTER,
         &ALL_NODES,
-        part(&payload, 0, n),
+        payload,
         &mut packet,
         Edition::First,
     ) else {
         return false;
     };
     match receive_check(
-        part(&packet, 0, m),
+        part(&packet, 0, n),
         255,
         &ROUTER,
         &ALL_NODES,
@@ -103,6 +99,15 @@ fn is_received(options: &[u8]) -> bool {
     ) {
         Received::Accepted(_) => true,
         Received::Refused(_) => false,
+    }
+}
+
+// The same of its options, behind two timers that are 0.
+fn is_received(options: &[u8]) -> bool {
+    let mut payload = [0u8; 4096];
+    match output::put(&mut payload, 8, options) {
+        Written::To(n) => is_sent(part(&payload, 0, n)),
+        Written::Refused(_) => false,
     }
 }
 

@@ -33,9 +33,6 @@ is-known-requires c κs = search needs
 fields-of-requires : tie.Need-fields-of-requires
 fields-of-requires c κs = search needs
 
-cast-t15 : tie.Need-cast-t15
-cast-t15 c = search needs
-
 returns : tie.Need-returns
 returns c =
     let w = c .before .before .before in
@@ -47,9 +44,6 @@ returns c =
     let field = c .fields-of .ensures ∙ ap (λ (n : ℕ). fieldsFor (a .kind) (bytes32 n)) (w .word-of .ensures) ∙ ap (fieldsFor (a .kind)) four in
     let e = sym (c .before .before .is-known .ensures) ∙ c .before .if1 .taken in
     rw (as-known (a .kind) (a .code) (fieldsAt p) e, known-head (checksumAt p) (wordAt p) (fieldsAt p) (view (a .kind) (a .code) e), field, w .word-of .ensures, w .before .u16-from-be .ensures)
-
-cast-t19 : tie.Need-cast-t19
-cast-t19 c = search needs
 
 returns-2 : tie.Need-returns-2
 returns-2 c =
@@ -67,7 +61,5 @@ head-of-spec =
     word-of-requires
     is-known-requires
     fields-of-requires
-    cast-t15
     returns
-    cast-t19
     returns-2)

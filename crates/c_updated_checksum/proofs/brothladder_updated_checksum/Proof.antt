@@ -1,7 +1,5 @@
--- `brothladder_updated_checksum` meets its contract: the answer is told as `updated_checksum` promises it.
+-- `brothladder_updated_checksum` meets its contract: the answer is told, arm by arm, as `updated_checksum` promises it.
 -- Assumes nothing.
-use mathlib.Core.Path.{_∙_, ap}
-use Rattle.c_updated.specs.Updated.{updatedFor}
 use borrow.Author.Needs.{needs}
 use Rattle.c_updated_checksum.proofs.brothladder_updated_checksum.Statement.{statement}
 use Rattle.c_updated_checksum.proofs.brothladder_updated_checksum.Tie as tie
@@ -9,12 +7,24 @@ use Rattle.c_updated_checksum.proofs.brothladder_updated_checksum.Tie a
 updated-checksum-requires : tie.Need-updated-checksum-requires
 updated-checksum-requires c κs = search needs
 
+enum-known-field : tie.Need-enum-known-field
+enum-known-field c = search needs
+
 told-requires : tie.Need-told-requires
 told-requires c κs = search needs
 
 returns : tie.Need-returns
-returns c = c .told .ensures ∙ ap updatedFor (c .before .updated-checksum .ensures)
+returns c = let m = c .before .before in rw (c .told .ensures, ← (m .before .before .updated-checksum .ensures), m .field .given .1)
+
+enum-known-why : tie.Need-enum-known-why
+enum-known-why c = search needs
+
+told-requires-2 : tie.Need-told-requires-2
+told-requires-2 c κs = search needs
+
+returns-2 : tie.Need-returns-2
+returns-2 c = let m = c .before .before in rw (c .told2 .ensures, ← (m .before .before .updated-checksum .ensures), m .why .given .1)
 
 pub brothladder-updated-checksum-spec : {M : Type 1} → statement M
 brothladder-updated-checksum-spec =
-    tie.close (tie.spec updated-checksum-requires told-requires returns)
+    tie.close (tie.spec updated-checksum-requires enum-known-field told-requires returns enum-known-why told-requires-2 returns-2)

@@ -5,19 +5,20 @@ use mathlib.Core.Path.{sym}
 use native.Mathlib.Omega.{arith}
 use denote.Ref.{now}
 use lib.ListN.{length-drop, drop}
-use Rattle.ndp_option_index.proofs.Matching.{begins-few, first-same, first-other}
+use Rattle.wire.proofs.Prefix.{too-short}
+use Rattle.ndp_option_index.proofs.Matching.{first-same, first-other}
 use borrow.Author.Needs.{needs}
 use Rattle.ndp_option_index.proofs.entry_is.Statement.{statement}
 use Rattle.ndp_option_index.proofs.entry_is.Tie as tie
 
 returns : tie.Need-returns
-returns c = let a = c .before .args in sym (begins-few (drop (a .k) (now (a .index))) _ _ (simp length-drop (omega arith)))
+returns c = let a = c .before .args in sym (too-short _ (drop (a .k) (now (a .index))) (simp length-drop (omega arith)))
 
 sub-if2 : tie.Need-sub-if2
 sub-if2 c = search needs
 
 returns-2 : tie.Need-returns-2
-returns-2 c = let a = c .before .before .args in sym (begins-few (drop (a .k) (now (a .index))) _ _ (simp length-drop (omega arith)))
+returns-2 c = let a = c .before .before .args in sym (too-short _ (drop (a .k) (now (a .index))) (simp length-drop (omega arith)))
 
 mul-if3 : tie.Need-mul-if3
 mul-if3 c = search needs

@@ -11,6 +11,7 @@ use denote.Ref.{now}
 use lib.ListN.{length, drop}
 use borrow.Author.Needs.{needs}
 use Rattle.paper.specs.Paper.{Paper}
+use Rattle.wire.specs.Prefix.{begins}
 use Rattle.packet_place.proofs.Laws.{near, beyond}
 use Rattle.refusal.specs.declared.Refusal.{Refusal}
 use Rattle.refusal.specs.Paper.{refusal}
@@ -25,10 +26,10 @@ use Rattle.ndp_options.proofs.Steps.{handed-on, ended-at, refused-at, not-stopp
 use Rattle.ndp_option_list.specs.Whole.{wholeOf, countOf}
 use Rattle.ndp_option_index.specs.Entries.{entriesOf, numbersOf}
 use Rattle.ndp_option_index.specs.Index.{indexOf}
-use Rattle.ndp_option_index.specs.Append.{begins, isIndex, matchedOf}
+use Rattle.ndp_option_index.specs.Append.{isIndex, matchedOf}
 use Rattle.ndp_option_index.proofs.OrElse.{the-first}
 use Rattle.ndp_option_index.proofs.Building.{Counts}
-use Rattle.ndp_option_index.proofs.Matching.{itself, begins-more, differs-many, differs-number, differs-somewhere, the-same}
+use Rattle.ndp_option_index.proofs.Matching.{itself, one-entry-more, differs-many, differs-number, differs-somewhere, the-same}
 use Rattle.ndp_option_index.proofs.own_index.Statement.{statement}
 use Rattle.ndp_option_index.proofs.own_index.Tie as tie
 
@@ -38,12 +39,12 @@ left ed s at = walkFrom ed (0 + at) (drop at s)
 
 -- no difference so far, and the numbers of these options from the n-th entry on
 abbrev goes-on : Bool → List ℕ → ℕ → List Item → Bool
-goes-on same index n is = cond same (begins (drop (n * 2) index) (numbersOf (entriesOf is))) false
+goes-on same index n is = cond same (begins (numbersOf (entriesOf is)) (drop (n * 2) index)) false
 
 -- one option more
-turn : (same : Bool) (index : List ℕ) (n : ℕ) (i : Item) (is : List Item) → goes-on same index n (i ∷ is) ≡ goes-on (cond same (begins (drop (n * 2) index) (i .type ∷ i .at ∷ [])) false) index (n + 1) is
+turn : (same : Bool) (index : List ℕ) (n : ℕ) (i : Item) (is : List Item) → goes-on same index n (i ∷ is) ≡ goes-on (cond same (begins (i .type ∷ i .at ∷ []) (drop (n * 2) index)) false) index (n + 1) is
 unfolding numbersOf
-turn same index n i is = begins-more same index n (i .type) (i .at) (numbersOf (entriesOf is))
+turn same index n i is = one-entry-more same index n (i .type) (i .at) (numbersOf (entriesOf is))
 
 -- no more
 done : (same : Bool) (index : List ℕ) (n : ℕ) → goes-on same index n [] ≡ same
@@ -61,7 +62,7 @@ Inv-loop options index entries edition c₀ n₀ same₀ c n same =
     (c .at ≤ length options) × (n * 8 ≤ c .at)
     × (length (walk edition options .items) ≡ n + length (left edition options (c .at) .items))
     × (walk edition options .ending ≡ left edition options (c .at) .ending)
-    × (begins index (indexOf edition options) ≡ goes-on same index n (left edition options (c .at) .items))
+    × (begins (indexOf edition options) index ≡ goes-on same index n (left edition options (c .at) .items))
 
 abbrev μ-loop : tie.MeasureT-loop
 μ-loop options index entries edition c₀ n₀ same₀ c n same = length options - c .at
@@ -77,7 +78,7 @@ onward c = handed-on _ _ _ _ (c .before .before .before .loop .inv .0) (c .befor
 pub record Ended (ed : Edition) (s index : List ℕ) (n : ℕ) (same : Bool) : Type 0 where
   pub counts : Counts ed 0 s (length (walk ed s .items))
   pub number : length (walk ed s .items) ≡ n
-  pub own : begins index (indexOf ed s) ≡ same
+  pub own : begins (indexOf ed s) index ≡ same
 
 ended : (c : tie.After-enum-told Inv-loop μ-loop) →
     let l = c .before .before .before in
@@ -129,7 +130,7 @@ loop-again c =
     let i = shiftItem 0 (itemTold x) in
     let next = arm .option .given .0 .1 .0 .at in
     let place : x .place ≡ i .at = omega (arith, o .there, o .here) in
-    let here : c .both .result ≡ cond (l .loop .same) (begins (drop (l .loop .n * 2) (a .index .now)) (i .type ∷ i .at ∷ [])) false = c .both .ensures ∙ rw (c .before .entry-is .ensures, place) in
+    let here : c .both .result ≡ cond (l .loop .same) (begins (i .type ∷ i .at ∷ []) (drop (l .loop .n * 2) (a .index .now))) false = c .both .ensures ∙ rw (c .before .entry-is .ensures, place) in
     let more : length (left (a .edition) (a .options .now) (l .loop .c .at) .items) ≡ length (left (a .edition) (a .options .now) next .items) + 1 = ap (λ (w : Walk). length (w .items)) (o .walk) ∙ omega arith in (
       o .inside,
       omega (arith, o .of .least, o .behind),

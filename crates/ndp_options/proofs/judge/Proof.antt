@@ -7,7 +7,7 @@ use mathlib.Core.Path.{_≡_, refl, sym, ap, _∙_}
 use native.Mathlib.Omega.{arith}
 use lib.ListN.{getD}
 use Rattle.ndp_walk.proofs.Judging.{known, over, short}
-use Rattle.ndp_options.specs.Editions.{asksMore}
+use Rattle.ndp_options.specs.Newer.{asksMore}
 use Rattle.ndp_options.specs.Told.{judgedAt}
 use Rattle.ndp_options.proofs.Rule.{no-units, cut-short, newer-fit, newer-long, newer-misfit, by-first}
 use borrow.Author.Needs.{needs}
