@@ -72,7 +72,7 @@ fn print_numbers(plan: &[u32]) {
 }
 
 // Whether an advertisement with this payload, as the packet writer writes it, passes the receive check.
-fn is_sent(payload: &[u8]) -> bool {
+fn is_advertisement_received(payload: &[u8]) -> bool {
     let mut packet = [0u8; 4096];
     let header = Icmpv6Header::new(Icmpv6Type::RouterAdvertisement(RouterAdvertisementHeader {
         cur_hop_limit: 64,
@@ -106,7 +106,7 @@ fn is_sent(payload: &[u8]) -> bool {
 fn is_received(options: &[u8]) -> bool {
     let mut payload = [0u8; 4096];
     match output::put(&mut payload, 8, options) {
-        Written::To(n) => is_sent(part(&payload, 0, n)),
+        Written::To(n) => is_advertisement_received(part(&payload, 0, n)),
         Written::Refused(_) => false,
     }
 }
