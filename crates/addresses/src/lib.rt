@@ -1,4 +1,6 @@
 // Tests for the kinds of IPv6 addresses (RFC 4291, section 2.4; docs/RULES.md R11). Each looks at what a slice begins with.
+#![tactic(auto)]
+
 ghost use Rattle.std.specs.Prelude.{◌≡◌, ◌&&◌, ◌/◌, eqb};
 ghost use Rattle.addresses.specs.Address.{same, unspecified, multicast, link_local, solicited_node};
 

@@ -1,5 +1,7 @@
 // A long list of options in several advertisements (RFC 4861, section 6.2.3; docs/RULES.md, area Z). A plan says how many consecutive options go into each
 // message. A checker accepts a plan or does not, so that nobody has to trust a planner; ours fills each message in turn.
+#![tactic(auto)]
+
 ghost use Rattle.std.specs.Prelude.{◌+◌, ◌*◌, ◌≤◌, ◌<◌, ◌≡◌, true, length, get_or};
 ghost use Rattle.output.specs.Output.{written_told, leaves, over};
 ghost use Rattle.split_plan.specs.Plan.{bare, each_fits, plan_of};

@@ -1,4 +1,6 @@
 // The sum under a C name: what bench/ links beside its peers, and nothing else.
+#![tactic(auto)]
+
 ghost use Rattle.std.specs.Prelude.{◌≡◌};
 ghost use Rattle.checksum.specs.Ones.{words, ones_sum};
 

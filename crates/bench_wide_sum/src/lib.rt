@@ -1,4 +1,6 @@
 // The wider sums under C names: what bench/ and tests/c/ link beside the plain sum, and nothing else.
+#![tactic(auto)]
+
 ghost use Rattle.std.specs.Prelude.{◌≡◌};
 ghost use Rattle.checksum.specs.Ones.{words, ones_sum};
 

@@ -1,6 +1,8 @@
 // The calls for C take numbers and byte buffers and answer one struct of numbers; include/brothladder.h tells a C programmer the same.
 // Here is what came: the first number of every answer. All differ, over all calls, and none is 0, so that no answer reads as false and
 // memory that was cleared is no answer.
+#![tactic(auto)]
+
 pub const REFUSED: u32 = 1;
 
 pub const KNOWN: u32 = 2;

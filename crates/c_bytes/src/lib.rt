@@ -1,4 +1,6 @@
 // What the calls share that read an option for its bytes: where they begin in it and how many they are. Nothing is copied.
+#![tactic(auto)]
+
 ghost use Rattle.std.specs.Prelude.{◌≡◌};
 ghost use Rattle.ndp_option_read.specs.Rule.{read_told};
 ghost use Rattle.c_bytes.specs.Bytes.{bytes_for};

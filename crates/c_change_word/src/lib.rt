@@ -1,4 +1,6 @@
 // A word of a lent packet changed, and the checksum field with it.
+#![tactic(auto)]
+
 ghost use Rattle.std.specs.Prelude.{◌≡◌};
 ghost use Rattle.checksum_update.specs.Update.{updated_of, left_of};
 ghost use Rattle.c_updated.specs.Updated.{updated_for};

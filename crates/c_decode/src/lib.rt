@@ -1,4 +1,6 @@
 // The head of a packet.
+#![tactic(auto)]
+
 ghost use Rattle.std.specs.Prelude.{◌≡◌, ◌≤◌, length};
 ghost use Rattle.wire.specs.Wire.{bytes32};
 ghost use Rattle.icmpv6.specs.Head.{word_at, decode_of};

@@ -1,4 +1,6 @@
 // The numbers of a recursive DNS server option that a step handed out, read at its place in the packet.
+#![tactic(auto)]
+
 ghost use Rattle.std.specs.Prelude.{◌≡◌};
 ghost use Rattle.packet_place.specs.Place.{placed};
 ghost use Rattle.recursive_dns_servers.specs.Servers.{servers_of};

@@ -1,4 +1,6 @@
 // The index beside the options for C: built, grown with its list, and asked. The index in use is the first entries of its buffer.
+#![tactic(auto)]
+
 ghost use Rattle.std.specs.Prelude.{◌≡◌, ◌*◌, [], ◌∷◌, take};
 ghost use Rattle.paper.specs.Paper.{gives};
 ghost use Rattle.refusal.specs.Paper.{refusal};

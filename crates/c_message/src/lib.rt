@@ -1,4 +1,6 @@
 // A message's own fixed part: its kind, where its addresses and its options are, and the timers of a router advertisement.
+#![tactic(auto)]
+
 ghost use Rattle.std.specs.Prelude.{◌≡◌, ◌+◌, ◌≤◌, length};
 ghost use Rattle.message_table.specs.Table.{fixed_len};
 ghost use Rattle.icmpv6_payload.specs.Owned.{timers_told};

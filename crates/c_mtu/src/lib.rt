@@ -1,4 +1,6 @@
 // The MTU of an option that a step handed out, read at its place in the packet.
+#![tactic(auto)]
+
 ghost use Rattle.std.specs.Prelude.{◌≡◌};
 ghost use Rattle.packet_place.specs.Place.{placed};
 ghost use Rattle.ndp_option.specs.Mtu.{mtu_of};

@@ -1,4 +1,6 @@
 // How far a router advertisement asks that its router be preferred (RFC 4191, section 2.2).
+#![tactic(auto)]
+
 ghost use Rattle.std.specs.Prelude.{◌≡◌};
 ghost use Rattle.icmpv6.specs.Preference.{preference_read};
 ghost use Rattle.c_preference.specs.Preference.{preference_for};

@@ -1,4 +1,6 @@
 // The numbers of a prefix information option that a step handed out, read at its place in the packet.
+#![tactic(auto)]
+
 ghost use Rattle.std.specs.Prelude.{◌≡◌};
 ghost use Rattle.prefix_information.specs.Prefix.{prefix_of};
 ghost use Rattle.c_prefix.specs.Prefix.{prefix, prefix_for};

@@ -1,4 +1,6 @@
 // A link-layer address option put at a place of a lent buffer.
+#![tactic(auto)]
+
 ghost use Rattle.std.specs.Prelude.{◌≡◌};
 ghost use Rattle.output.specs.Output.{room_for, leaves};
 ghost use Rattle.ndp_option.specs.LinkLayer.{link_layer_of};

@@ -1,4 +1,6 @@
 // An MTU option put at a place of a lent buffer.
+#![tactic(auto)]
+
 ghost use Rattle.std.specs.Prelude.{◌≡◌};
 ghost use Rattle.output.specs.Output.{room_for, leaves};
 ghost use Rattle.option_writer.specs.Options.{mtu_bytes};

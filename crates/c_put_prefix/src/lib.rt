@@ -1,4 +1,6 @@
 // A prefix information option put at a place of a lent buffer. A flag is set by any number but 0.
+#![tactic(auto)]
+
 ghost use Rattle.std.specs.Prelude.{◌≡◌};
 ghost use Rattle.output.specs.Output.{room_for, leaves};
 ghost use Rattle.prefix_information.specs.Prefix.{bytes_of};

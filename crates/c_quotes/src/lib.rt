@@ -1,4 +1,6 @@
 // The chain of packets that a message quotes.
+#![tactic(auto)]
+
 ghost use Rattle.std.specs.Prelude.{◌≡◌, ◌<◌};
 ghost use Rattle.paper.specs.Each.{Each};
 ghost use Rattle.ndp_options.specs.Editions.{edition_of};

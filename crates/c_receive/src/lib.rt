@@ -1,4 +1,6 @@
 // The receive check. If a packet passes it, the answer says where its options are, which are whole in the edition that was asked.
+#![tactic(auto)]
+
 ghost use Rattle.std.specs.Prelude.{◌≡◌};
 ghost use Rattle.ndp_options.specs.Editions.{edition_of};
 ghost use Rattle.receive.specs.Receive.{receive_of};

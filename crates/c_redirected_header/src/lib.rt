@@ -1,4 +1,6 @@
 // Where the quoted packet is in a redirected-header option that a step handed out, read at its place in the packet.
+#![tactic(auto)]
+
 ghost use Rattle.std.specs.Prelude.{◌≡◌, length};
 ghost use Rattle.packet_place.specs.Place.{placed};
 ghost use Rattle.ndp_option_read.specs.Rule.{sized_of};

@@ -1,4 +1,6 @@
 // The numbers of a route information option that a step handed out, read at its place in the packet.
+#![tactic(auto)]
+
 ghost use Rattle.std.specs.Prelude.{◌≡◌};
 ghost use Rattle.route_information.specs.Route.{route_of};
 ghost use Rattle.c_route.specs.Route.{route, route_for};

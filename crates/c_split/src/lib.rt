@@ -1,5 +1,7 @@
 // A long advertisement split for C: the checker of plans, our planner, and where the options of a message are. A planner of the site's own, most likely
 // written in C, asks the checker.
+#![tactic(auto)]
+
 ghost use Rattle.std.specs.Prelude.{◌≡◌};
 ghost use Rattle.output.specs.Output.{leaves};
 ghost use Rattle.ndp_options.specs.Editions.{edition_of};

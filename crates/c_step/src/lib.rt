@@ -1,5 +1,7 @@
 // A step of the option walk. The caller passes to each step the `next` of the step before it, the same offset, where the options begin in the packet,
 // and the same edition.
+#![tactic(auto)]
+
 ghost use Rattle.std.specs.Prelude.{◌≡◌};
 ghost use Rattle.ndp_options.specs.Editions.{edition_of};
 ghost use Rattle.ndp_options.specs.Walk.{step_of};

@@ -1,4 +1,6 @@
 // The sum of some bytes.
+#![tactic(auto)]
+
 ghost use Rattle.std.specs.Prelude.{◌≡◌};
 ghost use Rattle.running_sum.specs.Parts.{over};
 ghost use Rattle.c_summed.specs.Summed.{summed_for};

@@ -1,4 +1,6 @@
 // The sum of joined bytes, from the sums of both parts.
+#![tactic(auto)]
+
 ghost use Rattle.std.specs.Prelude.{◌≡◌};
 ghost use Rattle.running_sum.specs.Parts.{◌then◌};
 ghost use Rattle.c_summed.specs.Summed.{summed_for, running_of};

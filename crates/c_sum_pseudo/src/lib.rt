@@ -1,4 +1,6 @@
 // The sum of the pseudo-header of a packet, to push the packet's bytes on.
+#![tactic(auto)]
+
 ghost use Rattle.std.specs.Prelude.{◌≡◌};
 ghost use Rattle.running_sum.specs.Parts.{over_pseudo};
 ghost use Rattle.c_summed.specs.Summed.{summed_for};

@@ -1,4 +1,6 @@
 // A sum with more bytes behind those that are in it.
+#![tactic(auto)]
+
 ghost use Rattle.std.specs.Prelude.{◌≡◌};
 ghost use Rattle.running_sum.specs.Parts.{over, ◌then◌};
 ghost use Rattle.c_summed.specs.Summed.{summed_for, running_of};

@@ -1,4 +1,6 @@
 // What the sums for C share: a sum, and whether an odd number of bytes is in it, in one struct that comes back as it went out.
+#![tactic(auto)]
+
 ghost use Rattle.std.specs.Prelude.{◌≡◌};
 ghost use Rattle.c_summed.specs.Summed.{summed_for, running_of};
 

@@ -1,4 +1,6 @@
 // What the two calls for C share that update a checksum: the answer as numbers.
+#![tactic(auto)]
+
 ghost use Rattle.std.specs.Prelude.{◌≡◌};
 ghost use Rattle.checksum_update.specs.Told.{updated_told};
 ghost use Rattle.c_updated.specs.Updated.{updated_for};

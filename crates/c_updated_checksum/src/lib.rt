@@ -1,4 +1,6 @@
 // The field that a packet is to have once one of its words is another.
+#![tactic(auto)]
+
 ghost use Rattle.std.specs.Prelude.{◌≡◌};
 ghost use Rattle.checksum_update.specs.Update.{updated_of};
 ghost use Rattle.c_updated.specs.Updated.{updated_for};

@@ -1,4 +1,6 @@
 // The verdict on a packet's checksum.
+#![tactic(auto)]
+
 ghost use Rattle.std.specs.Prelude.{◌≡◌};
 ghost use Rattle.checksum.specs.Icmpv6.{verdict_of};
 ghost use Rattle.c_verify.specs.Verified.{verified_for};

@@ -1,5 +1,7 @@
 // The version of the calls for C. A C program refers to this call by its name, which has the number in it: an object that was compiled with the
 // header of another version does not link.
+#![tactic(auto)]
+
 ghost use Rattle.std.specs.Prelude.{◌≡◌};
 
 pub const VERSION: u32 = 6;

@@ -1,4 +1,6 @@
 // A packet written into a lent output, by the default. The header comes as numbers.
+#![tactic(auto)]
+
 ghost use Rattle.std.specs.Prelude.{◌≡◌};
 ghost use Rattle.icmpv6.specs.Head.{by_default};
 ghost use Rattle.ndp_options.specs.Editions.{edition_of};

@@ -1,4 +1,6 @@
 // A packet written in place, with 0 in every reserved bit. The header comes as numbers.
+#![tactic(auto)]
+
 ghost use Rattle.std.specs.Prelude.{◌≡◌, drop};
 ghost use Rattle.icmpv6.specs.Head.{Clearing};
 ghost use Rattle.ndp_options.specs.Editions.{edition_of};

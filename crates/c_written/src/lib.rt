@@ -1,4 +1,6 @@
 // What the calls for C share that write: a packet's header from its numbers, and the answer as numbers.
+#![tactic(auto)]
+
 ghost use Rattle.std.specs.Prelude.{◌≡◌};
 ghost use Rattle.output.specs.Output.{written_told};
 ghost use Rattle.c_written.specs.Written.{header_of_word, written_for};

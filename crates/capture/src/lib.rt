@@ -1,4 +1,6 @@
 // One record of a capture, read (docs/RULES.md C1 to C6, C8, C9).
+#![tactic(auto)]
+
 ghost use Rattle.std.specs.Prelude.{◌≡◌, ◌+◌, ◌<◌, length, take, drop};
 ghost use Rattle.capture.specs.Record.{allows, marked as record_marked, address_at, record_of, record_placed, next_of};
 ghost use Rattle.capture.specs.Paper.{next_paper};

@@ -1,4 +1,6 @@
 // The Internet checksum (RFC 1071) over the pseudo-header of RFC 8200, section 8.1, and an ICMPv6 packet.
+#![tactic(auto)]
+
 ghost use Rattle.std.specs.Prelude.{◌≡◌, ◌+◌, ◌*◌, ◌<◌, ◌≤◌, length};
 ghost use Rattle.checksum.specs.Ones.{words, ones_sum};
 ghost use Rattle.checksum.specs.Running.{low_first, folded, swapped, Part, Pseudo};

@@ -1,5 +1,7 @@
 // The checksum field of a packet of which one 16-bit word changes (RFC 1624; docs/RULES.md M1 to M9): from the packet as it stands, with no address and no
 // look at the rest of it.
+#![tactic(auto)]
+
 ghost use Rattle.std.specs.Prelude.{◌≡◌, cond, ◌+◌, ◌<◌, length};
 ghost use Rattle.wire.specs.Wire.{word16_at};
 ghost use Rattle.checksum.specs.Ones.{with_word};

@@ -2,6 +2,8 @@
 // Standard input holds records (docs/RULES.md C1). A line for each has the checksum that is computed
 // for its packet and the verdict; then each of its bytes is inverted in turn, and no such packet may validate. At the end stands
 // how many heads that were read, given their checksum anew and written are those that came in: clearing, and by the default.
+#![tactic(auto)]
+
 ghost use Rattle.std.specs.Prelude.{◌+◌, ◌≤◌, length};
 ghost use Rattle.capture.specs.Record.{longest};
 

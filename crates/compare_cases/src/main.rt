@@ -2,6 +2,8 @@
 // 0 and how many entries there are, or the refusal's number, its list and its values; behind `report` the 24 numbers of the report, 7 where none was
 // written; behind `run` how many bytes lead alike. The first record's hop limit is the edition, the second's how many numbers are lent; the last four
 // bytes of a source are the offset of its list. `make_cases.py` makes the input and the answers that are wanted.
+#![tactic(auto)]
+
 ghost use Rattle.std.specs.Prelude.{◌≤◌, length};
 
 use capture::{Next, Record, next_record};

@@ -1,6 +1,8 @@
 // Writes the constants that the crate has, each by its name there and its number here; behind a message type the value that it decodes to with code 0,
 // and the kind of its payload. Contracts speak of numbers alone: what a number is called can only be held to the crate by a run. `compare/constants`
 // makes the text that must come out, from the excerpt of the crate.
+#![tactic(auto)]
+
 use icmpv6::icmpv6_header::Icmpv6Header;
 use icmpv6_codes::dest_unreachable_code::DestUnreachableCode;
 use icmpv6_codes::parameter_problem_code::ParameterProblemCode;

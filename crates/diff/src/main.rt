@@ -1,5 +1,7 @@
 // Compares the options of two messages, each the one record of a capture, and writes what differs (docs/RULES.md V9 to V13). The files are named by its
 // two arguments. One that cannot be opened or read is told on standard error, and so is writing that fails.
+#![tactic(auto)]
+
 mod ends;
 mod file;
 mod text;

@@ -1,4 +1,6 @@
 // The lines that tell what differs between two lists, written into a lent buffer (docs/RULES.md V9 to V12).
+#![tactic(auto)]
+
 ghost use Rattle.std.specs.Prelude.{◌≡◌, ◌++◌, ◌+◌, ◌≤◌, length};
 ghost use Rattle.output.specs.Output.{written_told, room_for, leaves, Wrote};
 ghost use Rattle.dump_lines.specs.Text.{newline, field};

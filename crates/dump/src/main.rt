@@ -1,5 +1,7 @@
 // Lists a capture that it reads on standard input, a piece at a time: what is left of a record after a piece is kept at the front of the buffer for
 // the next one. Reading that fails and writing that fails are told on standard error.
+#![tactic(auto)]
+
 mod ends;
 mod scan;
 

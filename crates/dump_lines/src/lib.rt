@@ -1,4 +1,6 @@
 // The lines of the dump, written into a lent buffer (docs/RULES.md D1 to D9).
+#![tactic(auto)]
+
 ghost use Rattle.std.specs.Prelude.{◌≡◌, [], ◌∷◌, ◌++◌, ◌+◌, ◌≤◌, ◌<◌, length};
 ghost use Rattle.output.specs.Output.{written_told, room_for, leaves, Wrote};
 ghost use Rattle.dump_lines.specs.Digits.{decimal, pair, hex4, glyph as digits_glyph};

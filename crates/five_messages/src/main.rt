@@ -3,6 +3,8 @@
 // that were sent. A sender clears reserved bits, so `send` names the clearing call; beside it each message is passed on as a gateway would, by the
 // default. `tests/five_messages.py` makes the bytes that must come out, without the library. Two functions have a proof by hand, since the borrow
 // checker covers no record that is lent and no struct that holds a slice; each is no more than its call.
+#![tactic(auto)]
+
 ghost use Rattle.std.specs.Prelude.{◌≡◌, drop};
 ghost use Rattle.icmpv6.specs.Head.{by_default, header_told};
 ghost use Rattle.checksum.specs.Told.{computed};

@@ -1,4 +1,6 @@
 // The checksum of a header record (RFC 4443, section 2.3): worked out for a value, and set in a header.
+#![tactic(auto)]
+
 ghost use Rattle.std.specs.Prelude.{◌≡◌};
 ghost use Rattle.icmpv6.specs.Head.{Clearing, Keeping, by_default, header_told};
 ghost use Rattle.checksum.specs.Icmpv6.{computed_of};

@@ -1,4 +1,6 @@
 // The fixed parts that follow the head in Neighbor Discovery (RFC 4861, sections 4.2 to 4.5), by value. For icmpv6_payload.rs (docs/DIFFERENCES.md).
+#![tactic(auto)]
+
 ghost use Rattle.std.specs.Prelude.{◌≡◌, length};
 ghost use Rattle.icmpv6_payload.specs.Fixed.{fixed_told, fixed_of, start_or};
 

@@ -1,5 +1,7 @@
 // What a message is and where its parts are: dispatch of a payload by the value of its head, or of a packet by its bytes. Port of
 // icmpv6_payload_slice/mod.rs. Receive check, listing, writer, `diff` and the calls for C but the chain's open a message here and nowhere else.
+#![tactic(auto)]
+
 ghost use Rattle.std.specs.Prelude.{◌≡◌, ◌+◌, ◌<◌, ◌≤◌, length, drop, cond};
 ghost use Rattle.message_table.specs.Table.{is_ndp};
 ghost use Rattle.icmpv6_payload_slice.specs.Dispatch.{payload_kind, payload_kind_number, payload_told, payload_of, kind_at, by_value, by_bytes};

@@ -1,4 +1,6 @@
 // The value of a packet's eight-byte head, without the checksum.
+#![tactic(auto)]
+
 ghost use Rattle.std.specs.Prelude.{◌≡◌};
 ghost use Rattle.wire.specs.Wire.{bytes32};
 ghost use Rattle.icmpv6_type.specs.Value.{type_told, type_of, kind_number, type_number, code_number, field_bytes};

@@ -1,6 +1,8 @@
 // Does what the commands on standard input say with a list, its index and the calls over them (docs/RULES.md, area I), and writes a line for each: its
 // number, and what came of it. A command is seven numbers of eight bytes, high byte first: what to do, the edition, four numbers, and how many bytes
 // follow. `make_cases.py` makes the commands and the lines that are wanted.
+#![tactic(auto)]
+
 use libc::{STDIN_FILENO, STDOUT_FILENO};
 use ndp_option_index::{Found, Grown, Indexed, append, build_index, first_of_type, next_of_type};
 use ndp_options::Edition;

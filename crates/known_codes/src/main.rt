@@ -1,4 +1,6 @@
 // Runs the decoder over all 65,536 pairs of type and code, and writes each pair that it knows: what docs/CODES.md lists.
+#![tactic(auto)]
+
 use icmpv6_type::Icmpv6Type;
 use libc::STDOUT_FILENO;
 

@@ -1,4 +1,6 @@
 // The text of one record, written into a lent buffer: its place, what its packet is, and the options of a Neighbor Discovery message.
+#![tactic(auto)]
+
 ghost use Rattle.std.specs.Prelude.{◌≡◌, ◌+◌, ◌≤◌, cond, [], length, get_or, drop};
 ghost use Rattle.wire.specs.Wire.{word16_at};
 ghost use Rattle.output.specs.Output.{written_told, Wrote};

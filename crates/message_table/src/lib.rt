@@ -1,4 +1,6 @@
 // The known message types (docs/RULES.md H3): the one table that decoder, dispatch, writer and receive check ask.
+#![tactic(auto)]
+
 ghost use Rattle.std.specs.Prelude.{◌≡◌};
 ghost use Rattle.message_table.specs.Table.{rows, row_of, known, fixed_len, is_ndp};
 

@@ -1,4 +1,6 @@
 // Readers of single Neighbor Discovery options (RFC 4861, section 4.6; docs/RULES.md O1 to O8), one file for each option. Port of ndp_option/mod.rs.
+#![tactic(auto)]
+
 ghost use Rattle.std.specs.Prelude.{◌≡◌};
 ghost use Rattle.ndp_option_read.specs.Rule.{read_told, part_from};
 

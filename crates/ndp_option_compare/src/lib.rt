@@ -1,4 +1,6 @@
 // What differs between two option lists, option by option (docs/RULES.md V1 to V8).
+#![tactic(auto)]
+
 ghost use Rattle.std.specs.Prelude.{◌≡◌, ◌+◌, ◌<◌, ◌≤◌, length};
 ghost use Rattle.packet_length.specs.Length.{limit};
 ghost use Rattle.output.specs.Output.{over};

@@ -1,5 +1,7 @@
 // The header of every Neighbor Discovery option (RFC 4861, section 4.6): type and length, a byte each.
 // Port of ndp_option/ndp_option_header.rs.
+#![tactic(auto)]
+
 ghost use Rattle.std.specs.Prelude.{◌≡◌, drop};
 ghost use Rattle.packet_place.specs.Place.{placed};
 ghost use Rattle.ndp_option_header.specs.Header.{unit_bytes, header_bytes, option_header_told, header_of};

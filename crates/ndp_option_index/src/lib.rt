@@ -1,5 +1,7 @@
 // An index beside the options (docs/RULES.md, area I): two numbers for each option of a list, its type and its place, in list order. It is built once,
 // grown with the list, and answers the first of a type and the next after a place without a look at the list.
+#![tactic(auto)]
+
 ghost use Rattle.std.specs.Prelude.{◌≡◌, Bool, true, false, cond, ◌+◌, ◌*◌, ◌≤◌, [], ◌∷◌, length, drop};
 ghost use Rattle.wire.specs.Prefix.{begins};
 ghost use Rattle.packet_length.specs.Length.{limit};

@@ -1,5 +1,7 @@
 // Calls over a whole list of options: how many there are, whether one has a type, and which is the first that has it. A list that is refused gets the
 // refusal.
+#![tactic(auto)]
+
 ghost use Rattle.std.specs.Prelude.{◌≡◌, cond, eqb};
 ghost use Rattle.ndp_option_list.specs.Whole.{count_of, occurs_of, first_of, tally_of};
 ghost use Rattle.ndp_option_list.specs.Told.{count_told, occurs_told, first_told, tally_told};

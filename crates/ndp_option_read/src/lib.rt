@@ -1,5 +1,7 @@
 // The two rules by which a Neighbor Discovery option is read by itself (RFC 4861, section 4.6): every reader goes by one of them,
 // and an option that the library has no reader of can be read by them too.
+#![tactic(auto)]
+
 ghost use Rattle.std.specs.Prelude.{◌≡◌, [], ◌∷◌, get_or};
 ghost use Rattle.packet_place.specs.Place.{with_place, placed};
 ghost use Rattle.ndp_option_header.specs.Header.{header_bytes};

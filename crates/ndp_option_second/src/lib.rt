@@ -1,5 +1,7 @@
 // The rule by which an option of the second edition is read by itself (docs/RULES.md O10): the tests of an option of any size, and then the
 // walk's own, which is asked for the answer.
+#![tactic(auto)]
+
 ghost use Rattle.std.specs.Prelude.{◌≡◌};
 ghost use Rattle.packet_place.specs.Place.{placed};
 ghost use Rattle.ndp_option_second.specs.Rule.{second_told, judged_of};

@@ -1,5 +1,7 @@
 // The option walk of Neighbor Discovery (RFC 4861, section 4.6; docs/RULES.md W1 to W6), as a cursor by value over the option bytes.
 // Port of ndp_options_iterator.rs, with the two endings of a walk told apart: `End` at the end, `Stopped` after a refusal.
+#![tactic(auto)]
+
 ghost use Rattle.std.specs.Prelude.{◌≡◌, ◌/◌, ◌%◌, ◌&&◌, leb, eqb, drop, take};
 ghost use Rattle.refusal.specs.declared.Refusal.TheVariants.{UnexpectedSize};
 ghost use Rattle.ndp_walk.specs.Judge.{ruled, judge};

@@ -1,5 +1,7 @@
 // Writers of the options that a sender needs (RFC 4861, section 4.6; docs/RULES.md T7, T12): `put_..` at a place of a lent buffer, `write_..` at its
 // start. Refusal 9 if there is no room.
+#![tactic(auto)]
+
 ghost use Rattle.std.specs.Prelude.{◌≡◌};
 ghost use Rattle.output.specs.Output.{written_told, room_for, leaves};
 ghost use Rattle.prefix_information.specs.Prefix.{bytes_of};

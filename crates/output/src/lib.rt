@@ -1,4 +1,6 @@
 // Writes bytes or numbers into a buffer that the caller lends: all of them, or none and refusal 9 (docs/RULES.md T6, T11).
+#![tactic(auto)]
+
 ghost use Rattle.std.specs.Prelude.{◌≡◌, ◌-◌, length};
 ghost use Rattle.output.specs.Output.{written_told, room_for, numbers_for, leaves};
 

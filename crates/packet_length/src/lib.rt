@@ -1,4 +1,6 @@
 // Refusals 1 and 2: every call that reads a whole packet first tests its length with this one (docs/RULES.md H4).
+#![tactic(auto)]
+
 ghost use Rattle.std.specs.Prelude.{◌≡◌, []};
 ghost use Rattle.paper.specs.Paper.{gives};
 ghost use Rattle.packet_length.specs.Length.{sized, length_told};

@@ -1,5 +1,7 @@
 // Places in the whole packet (docs/RULES.md A1 to A3): option bytes come with the offset at which they begin there, and refusal 22 is given where
 // a place in them could be past the last that a packet has.
+#![tactic(auto)]
+
 ghost use Rattle.std.specs.Prelude.{◌≡◌};
 ghost use Rattle.packet_place.specs.Place.{is_far};
 

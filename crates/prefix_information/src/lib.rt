@@ -1,4 +1,6 @@
 // The prefix information option (RFC 4861, section 4.6.2). Port of prefix_information.rs.
+#![tactic(auto)]
+
 ghost use Rattle.std.specs.Prelude.{◌≡◌, length, drop};
 ghost use Rattle.prefix_information.specs.Prefix.{prefix_told, prefix_of32, prefix_of, information_at, bytes_of};
 

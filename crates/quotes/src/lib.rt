@@ -1,6 +1,8 @@
 // The packet that a message quotes, and what that quotes in turn: the chain of kinds and places, up to eight quotes deep, or the refusal and no part
 // of a chain. Errors quote the packet that caused them (RFC 4443, section 3), a redirected-header option the packet that was redirected (RFC 4861,
 // section 4.6.3). Every place is that in the outer packet.
+#![tactic(auto)]
+
 ghost use Rattle.std.specs.Prelude.{◌+◌, ◌*◌, ◌-◌, ◌<◌, ◌≤◌, ◌^◌, ◌≡◌, [], length};
 ghost use Rattle.refusal.specs.Paper.{refusal};
 ghost use Rattle.quotes.specs.Chain.{found_of, message_at, quote_at};

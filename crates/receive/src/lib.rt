@@ -1,5 +1,7 @@
 // The receive check of RFC 4861 for Neighbor Discovery (sections 6.1.1, 6.1.2, 7.1.1, 7.1.2 and 8.1); of all other packets the checksum alone is
 // tested. A packet is opened once and summed once, and what was opened is handed on.
+#![tactic(auto)]
+
 ghost use Rattle.std.specs.Prelude.{◌≡◌, not, ◌&&◌, ◌≤◌, eqb, length, get_or, drop};
 ghost use Rattle.packet_length.specs.Length.{fits};
 ghost use Rattle.message_table.specs.Table.{is_ndp};

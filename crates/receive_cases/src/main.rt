@@ -1,5 +1,7 @@
 // Reads records (docs/RULES.md C1) on standard input and writes a line for each: its number, and 0 where the receive
 // check accepts the packet, else the refusal's number and values. `make_cases.py` makes the input and the answers that are wanted.
+#![tactic(auto)]
+
 use capture::{Next, Record, next_record};
 use libc::{STDIN_FILENO, STDOUT_FILENO};
 use ndp_options::Edition;

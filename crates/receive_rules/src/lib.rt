@@ -1,5 +1,7 @@
 // What RFC 4861 asks of each message of Neighbor Discovery beyond what it asks of all (sections 6.1.1, 6.1.2, 7.1.1, 7.1.2 and 8.1). Each call answers
 // the number of the first reason not to receive the message, 0 where there is none. `listed`: the options have one of type 1.
+#![tactic(auto)]
+
 ghost use Rattle.std.specs.Prelude.{◌≡◌, ◌&&◌};
 ghost use Rattle.receive_rules.specs.Reasons.{first_of};
 ghost use Rattle.receive_rules.specs.Rules.{router_solicitation, router_advertisement, neighbor_solicitation, neighbor_advertisement, redirect};

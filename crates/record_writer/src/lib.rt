@@ -1,4 +1,6 @@
 // One record of a capture, written (docs/RULES.md C7, C9).
+#![tactic(auto)]
+
 ghost use Rattle.std.specs.Prelude.{◌≡◌};
 ghost use Rattle.output.specs.Output.{written_told, leaves};
 ghost use Rattle.capture.specs.Record.{mark_of, record_bytes, write_record_of};

@@ -1,4 +1,6 @@
 // The recursive DNS server option (RFC 8106, section 5.1): 25, units, two reserved bytes, the lifetime, and one or more addresses of 16 bytes.
+#![tactic(auto)]
+
 ghost use Rattle.std.specs.Prelude.{◌≤◌, ◌≡◌, length};
 ghost use Rattle.packet_place.specs.Place.{placed};
 ghost use Rattle.recursive_dns_servers.specs.Servers.{servers_told, servers_of, count_in, address_of};

@@ -1,4 +1,6 @@
 // The refusals (docs/RULES.md N1 to N23), which every answer of the library shares.
+#![tactic(auto)]
+
 ghost use Rattle.std.specs.Prelude.{◌≡◌, get_or, length};
 ghost use Rattle.refusal.specs.Table.{number, values};
 ghost use Rattle.refusal.specs.Paper.{refusal, numbers_of};

@@ -1,5 +1,7 @@
 // Runs the library on vectors that it reads on standard input (compare/FORMAT.md), and tells for each call how many answers were
 // compared, how many differ, and where in the stream the first vector that differs begins.
+#![tactic(auto)]
+
 ghost use Rattle.std.specs.Prelude.{◌≡◌, ◌+◌, ◌<◌, ◌≤◌, length};
 
 mod answers;

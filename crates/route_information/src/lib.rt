@@ -1,4 +1,6 @@
 // The route information option (RFC 4191, section 2.3): 24, units, the prefix length, the flags, the lifetime, and none, 8 or 16 bytes of the prefix.
+#![tactic(auto)]
+
 ghost use Rattle.std.specs.Prelude.{◌≤◌, ◌≡◌, length, get_or};
 ghost use Rattle.route_information.specs.Route.{route_told, route_of, information_at, no_information, bytes_from};
 

@@ -1,4 +1,6 @@
 // How far a router or a route is preferred over others (RFC 4191, section 2.1): bits 16 and 8 of a byte of flags.
+#![tactic(auto)]
+
 ghost use Rattle.std.specs.Prelude.{◌≡◌};
 ghost use Rattle.router_preference.specs.Preference.{preference_bits, is_reserved, preference_of, preference_number};
 

@@ -1,4 +1,6 @@
 // Sums of bytes that lie in several parts (docs/RULES.md U8 to U10): two sums added, the sums of two parts joined, and a sum that walks from part to part.
+#![tactic(auto)]
+
 ghost use Rattle.std.specs.Prelude.{◌≡◌, []};
 ghost use Rattle.checksum.specs.Ones.{◌⊕◌, ones_sum};
 ghost use Rattle.checksum.specs.Icmpv6.{pseudo_words};

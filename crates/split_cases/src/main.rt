@@ -2,6 +2,8 @@
 // packet writer wrote them; or what the checker says of a plan; or the refusal. A case has a head of eight bytes: the limit (4), 0 for a plan to be made or 1
 // for one to be checked, how many numbers follow, and how many option bytes (2), each high byte first; then the numbers (4 each), then the options.
 // `make_cases.py` makes the input and the answers that are wanted.
+#![tactic(auto)]
+
 ghost use Rattle.std.specs.Prelude.{◌≤◌};
 
 use advertisement_split::{Checked, check_plan, make_plan, message_options};

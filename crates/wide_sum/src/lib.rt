@@ -1,6 +1,8 @@
 // The sum of RFC 1071 by wider units than its words (docs/RULES.md Y1 to Y4): four bytes at a time, and 64 at a time with the carry taken along.
 // For machines of 64 bits: a total takes its own carry round (section 2 (C)), so every length has its sum; the two bytes of the folded total are
 // exchanged at the end (section 2 (B)).
+#![tactic(auto)]
+
 ghost use Rattle.std.specs.Prelude.{◌≡◌, ◌+◌, ◌*◌, ◌/◌, ◌%◌, ◌<◌, ◌≤◌, length, drop};
 ghost use Rattle.checksum.specs.Ones.{words, ones_sum};
 ghost use Rattle.checksum.specs.Running.{Bytes, low_first, folded, swapped};

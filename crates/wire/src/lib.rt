@@ -1,4 +1,6 @@
 // Numbers of several bytes, the high byte first, and the flags of a byte, as every header on the wire has them; and what bytes begin with.
+#![tactic(auto)]
+
 ghost use Rattle.std.specs.Prelude.{◌≡◌};
 ghost use Rattle.wire.specs.Wire.{word16, word32, bytes16, bytes32, has_flag, flag_of};
 ghost use Rattle.wire.specs.Prefix.{begins};

@@ -1,4 +1,6 @@
 // The packet writer (docs/RULES.md T1 to T5, T9, T10): a header record, both addresses and a payload, into a lent buffer.
+#![tactic(auto)]
+
 ghost use Rattle.std.specs.Prelude.{◌≡◌};
 ghost use Rattle.icmpv6_type.specs.Reserved.{misnamed};
 ghost use Rattle.icmpv6.specs.Head.{Clearing, Keeping, by_default};

@@ -1,4 +1,6 @@
 // The packet writer in place (docs/RULES.md T13): the payload stands in the lent packet already, behind eight bytes that the head is written to.
+#![tactic(auto)]
+
 ghost use Rattle.std.specs.Prelude.{◌≡◌, ◌+◌, ◌≤◌, [], ◌∷◌, length, drop};
 ghost use Rattle.paper.specs.Paper.{refuses, ◌or_else◌};
 ghost use Rattle.icmpv6.specs.Head.{Clearing, Keeping, by_default};
