@@ -6,7 +6,7 @@ ghost use Rattle.checksum.specs.Ones.{words, ones_sum};
 
 #[unsafe(no_mangle)]
 pub extern "C" fn brothladder_bench_sum_by_fours(bytes: &[u8]) -> u16
-    ensures { result ≡ ones_sum (words bytes.now) }
+    ensures sum { result ≡ ones_sum (words bytes.now) }
 {
     wide_sum::sum_by_fours(bytes)
 }
