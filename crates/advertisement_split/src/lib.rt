@@ -16,7 +16,7 @@ use output::Written;
 use refusal::Refusal;
 
 // Whether a plan is accepted, or why the walk over the options was refused, with its place.
-#[derive(Drop)]
+#[derive(Clone, Copy)]
 pub enum Checked {
     Accepted,
     NotAccepted,
@@ -25,7 +25,7 @@ pub enum Checked {
 
 // The options of a message: their place in the list and how many bytes they are; that the plan is not accepted or has no such message; or why the walk was
 // refused, with its place.
-#[derive(Drop)]
+#[derive(Clone, Copy)]
 pub enum Message {
     At(usize, usize),
     Nowhere,
@@ -36,14 +36,14 @@ pub enum Message {
 const OWN_BYTES: usize = 16;
 
 // A message that was filled: the place behind its options, and how many they are.
-#[derive(Drop)]
+#[derive(Clone, Copy)]
 struct Filled {
     to: usize,
     count: usize,
 }
 
 // Whether a plan was followed, and the places of one of its messages.
-#[derive(Drop)]
+#[derive(Clone, Copy)]
 struct Followed {
     yes: bool,
     from: usize,

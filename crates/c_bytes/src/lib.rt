@@ -8,7 +8,7 @@ ghost use Rattle.c_bytes.specs.Bytes.{bytes_for};
 use ndp_option_read::NdpOptionRead;
 
 #[repr(C)]
-#[derive(Drop)]
+#[derive(Clone, Copy)]
 pub struct Bytes {
     pub answer: u32,
     pub refusal: u32,

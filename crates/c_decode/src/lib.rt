@@ -13,7 +13,7 @@ use packet_length::PacketLength;
 
 // Type, code and checksum have the width of their bytes, and are what the writer takes. `bytes5to8` is bytes 4 to 7 as they stand.
 #[repr(C)]
-#[derive(Drop)]
+#[derive(Clone, Copy)]
 pub struct Head {
     pub answer: u32,
     pub refusal: u32,

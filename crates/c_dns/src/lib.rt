@@ -9,7 +9,7 @@ ghost use Rattle.c_dns.specs.Servers.{servers_for};
 use recursive_dns_servers::ServersRead;
 
 #[repr(C)]
-#[derive(Drop)]
+#[derive(Clone, Copy)]
 pub struct Servers {
     pub answer: u32,
     pub refusal: u32,

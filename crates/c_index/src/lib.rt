@@ -18,7 +18,7 @@ use refusal::{NdpOptionType, Refusal};
 
 // How many bytes the list has, and how many entries its index.
 #[repr(C)]
-#[derive(Drop)]
+#[derive(Clone, Copy)]
 pub struct Indexed {
     pub answer: u32,
     pub refusal: u32,
@@ -28,7 +28,7 @@ pub struct Indexed {
 }
 
 #[repr(C)]
-#[derive(Drop)]
+#[derive(Clone, Copy)]
 pub struct Found {
     pub answer: u32,
     pub refusal: u32,

@@ -11,7 +11,7 @@ use icmpv6_payload::router_advertisement_payload::RouterAdvertisementPayload;
 use icmpv6_payload_slice::{Icmpv6PayloadSlice, PayloadRead};
 
 #[repr(C)]
-#[derive(Drop)]
+#[derive(Clone, Copy)]
 pub struct Message {
     pub answer: u32,
     pub refusal: u32,

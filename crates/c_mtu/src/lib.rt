@@ -10,7 +10,7 @@ use ndp_option::mtu_option::MtuOption;
 
 // `kind` is that of the option, which a refused one has not: beside it the MTU has its own width, and the struct no padding.
 #[repr(C)]
-#[derive(Drop)]
+#[derive(Clone, Copy)]
 pub struct Mtu {
     pub answer: u32,
     pub refusal: u32,

@@ -9,7 +9,7 @@ use icmpv6::icmpv6_header::{HeaderRead, Icmpv6Header};
 
 // The number is wide, so that the struct has no padding.
 #[repr(C)]
-#[derive(Drop)]
+#[derive(Clone, Copy)]
 pub struct Preferred {
     pub answer: u32,
     pub refusal: u32,

@@ -9,7 +9,7 @@ use ndp_option_read::NdpOptionRead;
 use prefix_information::PrefixInformation;
 
 #[repr(C)]
-#[derive(Drop)]
+#[derive(Clone, Copy)]
 pub struct Prefix {
     pub answer: u32,
     pub refusal: u32,

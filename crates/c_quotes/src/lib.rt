@@ -12,7 +12,7 @@ use quotes::ChainAnswer;
 
 // Of level i, counted from 0: where its quote begins in the packet, its next header, and the kind of its message. 0 behind the last level.
 #[repr(C)]
-#[derive(Drop)]
+#[derive(Clone, Copy)]
 pub struct Chain {
     pub answer: u32,
     pub refusal: u32,

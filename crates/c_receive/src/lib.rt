@@ -10,7 +10,7 @@ use ndp_options::Edition;
 use receive::receive_check;
 
 #[repr(C)]
-#[derive(Drop)]
+#[derive(Clone, Copy)]
 pub struct Received {
     pub answer: u32,
     pub refusal: u32,

@@ -8,7 +8,7 @@ ghost use Rattle.c_route.specs.Route.{route, route_for};
 use route_information::{RouteAnswer, RouteInformation};
 
 #[repr(C)]
-#[derive(Drop)]
+#[derive(Clone, Copy)]
 pub struct Route {
     pub answer: u32,
     pub refusal: u32,

@@ -14,7 +14,7 @@ use ndp_options::Edition;
 use output::Written;
 
 #[repr(C)]
-#[derive(Drop)]
+#[derive(Clone, Copy)]
 pub struct Checked {
     pub answer: u32,
     pub refusal: u32,
@@ -22,7 +22,7 @@ pub struct Checked {
 }
 
 #[repr(C)]
-#[derive(Drop)]
+#[derive(Clone, Copy)]
 pub struct Planned {
     pub answer: u32,
     pub refusal: u32,
@@ -32,7 +32,7 @@ pub struct Planned {
 
 // Where the options of a message are in the list.
 #[repr(C)]
-#[derive(Drop)]
+#[derive(Clone, Copy)]
 pub struct Part {
     pub answer: u32,
     pub refusal: u32,

@@ -12,7 +12,7 @@ use ndp_options::{Cursor, Edition, NdpOptionKind, Step};
 
 // `next` of End and Stopped is the place that was passed in: a walk that is over stays over.
 #[repr(C)]
-#[derive(Drop)]
+#[derive(Clone, Copy)]
 pub struct Stepped {
     pub answer: u32,
     pub refusal: u32,

@@ -7,7 +7,7 @@ ghost use Rattle.c_summed.specs.Summed.{summed_for, running_of};
 use running_sum::RunningSum;
 
 #[repr(C)]
-#[derive(Drop)]
+#[derive(Clone, Copy)]
 pub struct Summed {
     pub answer: u32,
     pub sum: u16,

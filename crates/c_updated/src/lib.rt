@@ -6,7 +6,7 @@ ghost use Rattle.checksum_update.specs.Told.{updated_told};
 ghost use Rattle.c_updated.specs.Updated.{updated_for};
 
 #[repr(C)]
-#[derive(Drop)]
+#[derive(Clone, Copy)]
 pub struct Updated {
     pub answer: u32,
     pub refusal: u32,

@@ -8,7 +8,7 @@ ghost use Rattle.c_verify.specs.Verified.{verified_for};
 use checksum::Verdict;
 
 #[repr(C)]
-#[derive(Drop)]
+#[derive(Clone, Copy)]
 pub struct Verified {
     pub answer: u32,
     pub refusal: u32,

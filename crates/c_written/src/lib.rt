@@ -9,7 +9,7 @@ use icmpv6::icmpv6_header::Icmpv6Header;
 use icmpv6_type::Icmpv6Type;
 
 #[repr(C)]
-#[derive(Drop)]
+#[derive(Clone, Copy)]
 pub struct Written {
     pub answer: u32,
     pub refusal: u32,

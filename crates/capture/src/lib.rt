@@ -19,7 +19,7 @@ pub const MAX_SHORT_LEN: usize = 2048;
 pub const MAX_RECORD_LEN: usize = HEAD_LEN + MAX_PACKET_LEN;
 
 // Where the parts of a record stand in the capture; `next` is the place after its last byte.
-#[derive(Drop)]
+#[derive(Clone, Copy)]
 pub struct Record {
     pub hop_limit: u8,
     pub source: usize,
@@ -29,7 +29,7 @@ pub struct Record {
     pub next: usize,
 }
 
-#[derive(Drop)]
+#[derive(Clone, Copy)]
 pub enum Next {
     Found(Record),
     End,

@@ -19,14 +19,14 @@ const MAX_PAYLOAD_LEN: usize = 4294967287;
 const PIECE: usize = 65536;
 
 // The checksum of a packet that is to be sent.
-#[derive(Drop)]
+#[derive(Clone, Copy)]
 pub enum Computed {
     Checksum(u16),
     Refused(Refusal),
 }
 
 // The verdict on the checksum of a packet.
-#[derive(Drop)]
+#[derive(Clone, Copy)]
 pub enum Verdict {
     Valid,
     Invalid,

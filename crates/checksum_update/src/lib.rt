@@ -13,7 +13,7 @@ use refusal::Refusal;
 use running_sum::add;
 
 // The new field, or why nothing is to be changed.
-#[derive(Drop)]
+#[derive(Clone, Copy)]
 pub enum Updated {
     Field(u16),
     Refused(Refusal),
@@ -72,7 +72,7 @@ pub fn updated_checksum(packet: &[u8], place: usize, word: u16) -> Updated
 }
 
 // The new field, and whether there is one.
-#[derive(Drop)]
+#[derive(Clone, Copy)]
 struct Outcome {
     given: bool,
     field: u16,

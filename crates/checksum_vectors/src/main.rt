@@ -148,7 +148,7 @@ fn comes_kept(read: Icmpv6Header, packet: &[u8], source: &[u8; 16], destination:
 }
 
 // What a record adds up to: damaged packets that survive, heads that come again clearing, and by the default, which keeps.
-#[derive(Drop)]
+#[derive(Clone, Copy)]
 struct Tally {
     survivors: u64,
     cleared: u64,

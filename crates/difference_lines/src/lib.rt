@@ -10,7 +10,7 @@ ghost use Rattle.difference_lines.specs.Line.{fault_text, text};
 use output::Written;
 
 // The lines, in the order in which a text has them.
-#[derive(Drop)]
+#[derive(Clone, Copy)]
 pub enum Line {
     Title,
     // An entry of a report, by its five numbers (docs/RULES.md V3, V4).
@@ -37,7 +37,7 @@ pub enum Line {
 }
 
 // What is wrong with a list.
-#[derive(Drop)]
+#[derive(Clone, Copy)]
 pub enum Fault {
     Stopped { number: u8, place: u64 },
     Empty,

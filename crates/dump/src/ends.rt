@@ -4,19 +4,19 @@ ghost use Rattle.std.specs.Prelude.{◌≡◌, length};
 ghost use Rattle.dump.specs.Ends.{TakenIn, GivenAll};
 
 // So many bytes were put by a read, or taken by a write.
-#[derive(Drop)]
+#[derive(Clone, Copy)]
 pub(crate) struct Moved {
     bytes: usize,
 }
 
 // None at the end of the input.
-#[derive(Drop)]
+#[derive(Clone, Copy)]
 pub(crate) enum Taken {
     Bytes(Moved),
     Failed,
 }
 
-#[derive(Drop)]
+#[derive(Clone, Copy)]
 pub(crate) enum Given {
     All(Moved),
     Failed,

@@ -26,7 +26,7 @@ const LONGEST_CUT: usize = capture::MAX_RECORD_LEN - 1;
 
 // The bytes that are held, the place of the next record in them, the place of the first of them in the capture, and the records so far; whether the
 // input has ended, and how the listing stands. Then what the last turn read, and what it handed over.
-#[derive(Drop)]
+#[derive(Clone, Copy)]
 struct State {
     filled: usize,
     at: usize,

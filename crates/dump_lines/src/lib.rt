@@ -10,7 +10,7 @@ ghost use Rattle.dump_lines.specs.Line.{word_for, ok_word, text};
 use output::Written;
 
 // The lines, in the order in which a listing has them.
-#[derive(Drop)]
+#[derive(Clone, Copy)]
 pub enum Line {
     Title,
     Record {

@@ -175,7 +175,7 @@ fn is_headed(header: Icmpv6Header, head: [u8; 8], payload: &[u8], packet: &[u8])
 }
 
 // What `update_checksum` answers, and the header that it leaves.
-#[derive(Drop)]
+#[derive(Clone, Copy)]
 struct HeaderUpdated {
     answer: Computed,
     header: Icmpv6Header,

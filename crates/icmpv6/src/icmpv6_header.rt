@@ -12,14 +12,14 @@ use refusal::Refusal;
 use router_preference::RouterPreference;
 
 // Of `bytes5to8`, bytes 4 to 7 as one number, high byte first, the reserved bits alone count; 0 in a header that was made and not read.
-#[derive(Drop)]
+#[derive(Clone, Copy)]
 pub struct Icmpv6Header {
     pub icmp_type: Icmpv6Type,
     pub checksum: u16,
     pub bytes5to8: u32,
 }
 
-#[derive(Drop)]
+#[derive(Clone, Copy)]
 pub enum HeaderRead {
     Header(Icmpv6Header),
     Refused(Refusal),

@@ -6,7 +6,7 @@ use packet_length::PacketLength;
 use refusal::Refusal;
 
 // Type, code, checksum field, and bytes 4 to 7 as one number, high byte first.
-#[derive(Drop)]
+#[derive(Clone, Copy)]
 pub struct HeadParts {
     pub type_u8: u8,
     pub code_u8: u8,
@@ -14,7 +14,7 @@ pub struct HeadParts {
     pub bytes5to8: u32,
 }
 
-#[derive(Drop)]
+#[derive(Clone, Copy)]
 pub enum Parts {
     Head(HeadParts),
     Refused(Refusal),

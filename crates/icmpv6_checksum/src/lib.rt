@@ -12,7 +12,7 @@ use icmpv6::icmpv6_header::Icmpv6Header;
 use icmpv6_type::Icmpv6Type;
 use refusal::Refusal;
 
-#[derive(Drop)]
+#[derive(Clone, Copy)]
 pub enum HeaderMade {
     Header(Icmpv6Header),
     Refused(Refusal),

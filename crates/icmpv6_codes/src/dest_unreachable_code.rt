@@ -16,7 +16,7 @@ pub const CODE_DST_UNREACH_SOURCE_ADDRESS_FAILED_POLICY: u8 = 5;
 
 pub const CODE_DST_UNREACH_REJECT_ROUTE_TO_DEST: u8 = 6;
 
-#[derive(Drop)]
+#[derive(Clone, Copy)]
 pub enum DestUnreachableCode {
     NoRoute,
     Prohibited,
@@ -28,7 +28,7 @@ pub enum DestUnreachableCode {
 }
 
 // A listed code, or none.
-#[derive(Drop)]
+#[derive(Clone, Copy)]
 pub enum DestUnreachableListing {
     Listed(DestUnreachableCode),
     NotListed,

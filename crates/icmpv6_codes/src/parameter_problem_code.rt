@@ -24,7 +24,7 @@ pub const CODE_PARAM_PROBLEM_TOO_MANY_OPTIONS_EXT_HEADER: u8 = 9;
 
 pub const CODE_PARAM_PROBLEM_OPTION_TOO_BIG: u8 = 10;
 
-#[derive(Drop)]
+#[derive(Clone, Copy)]
 pub enum ParameterProblemCode {
     ErroneousHeaderField,
     UnrecognizedNextHeader,
@@ -40,7 +40,7 @@ pub enum ParameterProblemCode {
 }
 
 // A listed code, or none.
-#[derive(Drop)]
+#[derive(Clone, Copy)]
 pub enum ParameterProblemListing {
     Listed(ParameterProblemCode),
     NotListed,

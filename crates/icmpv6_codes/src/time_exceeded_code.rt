@@ -6,14 +6,14 @@ pub const CODE_TIME_EXCEEDED_HOP_LIMIT_EXCEEDED: u8 = 0;
 
 pub const CODE_TIME_EXCEEDED_FRAGMENT_REASSEMBLY_TIME_EXCEEDED: u8 = 1;
 
-#[derive(Drop)]
+#[derive(Clone, Copy)]
 pub enum TimeExceededCode {
     HopLimitExceeded,
     FragmentReassemblyTimeExceeded,
 }
 
 // A listed code, or none.
-#[derive(Drop)]
+#[derive(Clone, Copy)]
 pub enum TimeExceededListing {
     Listed(TimeExceededCode),
     NotListed,

@@ -2,7 +2,7 @@
 ghost use Rattle.std.specs.Prelude.{◌≡◌};
 ghost use Rattle.icmpv6_headers.specs.Headers.{echo_told, echo_of, echo_bytes};
 
-#[derive(Drop)]
+#[derive(Clone, Copy)]
 pub struct IcmpEchoHeader {
     pub id: u16,
     pub seq: u16,

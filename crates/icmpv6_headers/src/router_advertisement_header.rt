@@ -2,7 +2,7 @@
 ghost use Rattle.std.specs.Prelude.{◌≡◌};
 ghost use Rattle.icmpv6_headers.specs.Headers.{router_told, router_of, router_bytes};
 
-#[derive(Drop)]
+#[derive(Clone, Copy)]
 pub struct RouterAdvertisementHeader {
     pub cur_hop_limit: u8,
     pub managed_address_config: bool,

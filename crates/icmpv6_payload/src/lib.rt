@@ -13,7 +13,7 @@ pub mod router_advertisement_payload;
 
 // Whether a payload has the fixed part of its message. No enum holds an array, so what the part says stands beside the answer: all 0 where it is
 // refused.
-#[derive(Drop)]
+#[derive(Clone, Copy)]
 pub enum FixedPart {
     Present,
     Refused(Refusal),

@@ -4,12 +4,12 @@ ghost use Rattle.icmpv6_payload.specs.Fixed.{fixed_told, fixed_of, part_of};
 
 use crate::FixedPart;
 
-#[derive(Drop)]
+#[derive(Clone, Copy)]
 pub struct NeighborAdvertisementPayload {
     pub target_address: [u8; 16],
 }
 
-#[derive(Drop)]
+#[derive(Clone, Copy)]
 pub struct NeighborAdvertisementRead {
     pub answer: FixedPart,
     pub payload: NeighborAdvertisementPayload,

@@ -5,13 +5,13 @@ ghost use Rattle.icmpv6_payload.specs.Fixed.{fixed_told, fixed_of, part_of};
 
 use crate::FixedPart;
 
-#[derive(Drop)]
+#[derive(Clone, Copy)]
 pub struct RedirectPayload {
     pub target_address: [u8; 16],
     pub destination_address: [u8; 16],
 }
 
-#[derive(Drop)]
+#[derive(Clone, Copy)]
 pub struct RedirectRead {
     pub answer: FixedPart,
     pub payload: RedirectPayload,

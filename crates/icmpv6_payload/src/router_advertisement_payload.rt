@@ -5,13 +5,13 @@ ghost use Rattle.icmpv6_payload.specs.Fixed.{fixed_told, fixed_of, part_of};
 
 use crate::FixedPart;
 
-#[derive(Drop)]
+#[derive(Clone, Copy)]
 pub struct RouterAdvertisementPayload {
     pub reachable_time: u32,
     pub retrans_timer: u32,
 }
 
-#[derive(Drop)]
+#[derive(Clone, Copy)]
 pub struct RouterAdvertisementRead {
     pub answer: FixedPart,
     pub payload: RouterAdvertisementPayload,

@@ -12,7 +12,7 @@ use packet_length::PacketLength;
 use refusal::Refusal;
 
 // The kind of a payload. What its fixed part says is read from the payload (`icmpv6_payload`).
-#[derive(Drop)]
+#[derive(Clone, Copy)]
 pub enum Icmpv6PayloadKind {
     Raw,
     DestinationUnreachable,
@@ -31,14 +31,14 @@ pub enum Icmpv6PayloadKind {
 // A message that was dispatched: its kind, the place of its payload, and that of its options, which are the bytes from there to the end (none of a
 // kind that has no options). Places count from the first of the bytes that were dispatched, which stay the caller's. The options are the rest of a
 // `Cursor` at `options_at` over the same bytes; of bytes that do not reach that place there is no rest, and a step there is Stopped, never End.
-#[derive(Drop)]
+#[derive(Clone, Copy)]
 pub struct Icmpv6PayloadSlice {
     pub kind: Icmpv6PayloadKind,
     pub payload_at: usize,
     pub options_at: usize,
 }
 
-#[derive(Drop)]
+#[derive(Clone, Copy)]
 pub enum PayloadRead {
     Payload(Icmpv6PayloadSlice),
     Refused(Refusal),

@@ -15,14 +15,14 @@ use icmpv6_headers::router_advertisement_header::RouterAdvertisementHeader;
 use message_table::types;
 
 // A parameter problem: its code, and the place of the error in the packet that caused it.
-#[derive(Drop)]
+#[derive(Clone, Copy)]
 pub struct ParameterProblemHeader {
     pub code: ParameterProblemCode,
     pub pointer: u32,
 }
 
 // Unknown keeps type, code and bytes 4 to 7, these as one number, high byte first.
-#[derive(Drop)]
+#[derive(Clone, Copy)]
 pub enum Icmpv6Type {
     Unknown {
         type_u8: u8,

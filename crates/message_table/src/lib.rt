@@ -7,7 +7,7 @@ ghost use Rattle.message_table.specs.Table.{rows, row_of, known, fixed_len, is_n
 pub mod types;
 
 // A known type, how many codes it has (listed from 0 on), and the bytes of its fixed part behind the head.
-#[derive(Drop)]
+#[derive(Clone, Copy)]
 pub struct Row {
     pub kind: u8,
     pub codes: u8,

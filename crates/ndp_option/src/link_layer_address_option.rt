@@ -9,7 +9,7 @@ use ndp_option_read::NdpOptionRead;
 use refusal::NdpOptionType;
 
 // Whose address it is.
-#[derive(Drop)]
+#[derive(Clone, Copy)]
 pub enum LinkLayerAddressOption {
     Source,
     Target,

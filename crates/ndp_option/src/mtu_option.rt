@@ -11,7 +11,7 @@ const MTU: NdpOptionType = NdpOptionType(5);
 const LENGTH_UNITS: LengthUnits = LengthUnits(1);
 
 // The MTU, and the option's place in the packet.
-#[derive(Drop)]
+#[derive(Clone, Copy)]
 pub enum MtuOption {
     Mtu(u32, usize),
     Refused(Refusal),

@@ -14,14 +14,14 @@ use ndp_options::{Cursor, Edition, Step};
 use refusal::Refusal;
 
 // How many entries were written; or why none was, and the list that was refused: 1 the first, 2 the second, 0 if the report is too short.
-#[derive(Drop)]
+#[derive(Clone, Copy)]
 pub enum Compared {
     Entries(usize),
     Refused(u8, Refusal),
 }
 
 // How many options each list has; or the list that is refused, and why.
-#[derive(Drop)]
+#[derive(Clone, Copy)]
 enum Counts {
     Both(usize, usize),
     Refused(u8, Refusal),

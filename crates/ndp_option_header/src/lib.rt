@@ -10,14 +10,14 @@ use refusal::{LengthUnits, NdpOptionType, Refusal};
 
 pub const NDP_OPTION_HEADER_LEN: usize = 2;
 
-#[derive(Drop)]
+#[derive(Clone, Copy)]
 pub struct NdpOptionHeader {
     pub option_type: NdpOptionType,
     pub length_units: LengthUnits,
 }
 
 // What a slice begins with, and its place in the packet.
-#[derive(Drop)]
+#[derive(Clone, Copy)]
 pub enum HeaderRead {
     Header(NdpOptionHeader, usize),
     Refused(Refusal),

@@ -18,28 +18,28 @@ use output::{put, put_numbers};
 use refusal::{NdpOptionType, Refusal};
 
 // The place in the list of the option that was looked up.
-#[derive(Drop)]
+#[derive(Clone, Copy)]
 pub enum Found {
     At(usize),
     Nothing,
 }
 
 // How many entries the index has, or why there is none.
-#[derive(Drop)]
+#[derive(Clone, Copy)]
 pub enum Indexed {
     Entries(usize),
     Refused(Refusal),
 }
 
 // How many bytes a list and how many entries its index has after an append, or why nothing was appended.
-#[derive(Drop)]
+#[derive(Clone, Copy)]
 pub enum Grown {
     To(usize, usize),
     Refused(Refusal),
 }
 
 // Whether an index is the list's own.
-#[derive(Drop)]
+#[derive(Clone, Copy)]
 enum Matched {
     Same,
     Refused(Refusal),

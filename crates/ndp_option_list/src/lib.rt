@@ -10,14 +10,14 @@ use ndp_options::{Cursor, Edition, Step};
 use refusal::{NdpOptionType, Refusal};
 
 // How many options there are, or why the walk was refused, with its place.
-#[derive(Drop)]
+#[derive(Clone, Copy)]
 pub enum Counted {
     All(usize),
     Refused(Refusal),
 }
 
 // Whether a type occurs, or why the walk was refused, with its place.
-#[derive(Drop)]
+#[derive(Clone, Copy)]
 pub enum Occurs {
     Yes,
     No,
@@ -25,7 +25,7 @@ pub enum Occurs {
 }
 
 // The first option of a type: its place in the packet and its length in bytes; none; or why the walk was refused, with its place.
-#[derive(Drop)]
+#[derive(Clone, Copy)]
 pub enum First {
     At(usize, usize),
     Nowhere,
@@ -33,14 +33,14 @@ pub enum First {
 }
 
 // The place and the length of the first option of a type. No option has 0 bytes: a length of 0 says that there is none.
-#[derive(Drop)]
+#[derive(Clone, Copy)]
 struct Spot {
     place: usize,
     len: usize,
 }
 
 // Of a whole walk: how many options, and the first of the type asked for.
-#[derive(Drop)]
+#[derive(Clone, Copy)]
 enum Tally {
     All(usize, Spot),
     Refused(Refusal),

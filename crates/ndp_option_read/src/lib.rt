@@ -11,7 +11,7 @@ use ndp_option_header::NdpOptionHeader;
 use refusal::{LengthUnits, NdpOptionType, Refusal};
 
 // Whether an option passes its rule, with its place in the packet. Its contents are read by another call, or stand beside the answer.
-#[derive(Drop)]
+#[derive(Clone, Copy)]
 pub enum NdpOptionRead {
     Accepted(usize),
     Refused(Refusal),

@@ -11,7 +11,7 @@ use ndp_options::{Cursor, Edition, NdpOptionKind, Step};
 use refusal::{NdpOptionType, Refusal};
 
 // The kind as which a walk in the second edition hands the option out, and the option's place in the packet.
-#[derive(Drop)]
+#[derive(Clone, Copy)]
 pub enum SecondRead {
     Handed(NdpOptionKind, usize),
     Refused(Refusal),

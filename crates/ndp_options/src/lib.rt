@@ -16,13 +16,13 @@ use refusal::{NdpOptionType, Refusal};
 use router_preference::is_reserved;
 
 // Which rule of the types a walk goes by: the first knows the types of RFC 4861; the second also routes (RFC 4191) and servers (RFC 8106).
-#[derive(Drop)]
+#[derive(Clone, Copy)]
 pub enum Edition {
     First,
     Second,
 }
 
-#[derive(Drop)]
+#[derive(Clone, Copy)]
 pub enum NdpOptionKind {
     Unknown,
     SourceLinkLayerAddress,
@@ -35,7 +35,7 @@ pub enum NdpOptionKind {
 }
 
 // An option that was handed out: what it is, where it starts in the option bytes, how many bytes it has, and its place in the packet.
-#[derive(Drop)]
+#[derive(Clone, Copy)]
 pub struct NdpOption {
     pub kind: NdpOptionKind,
     pub option_type: NdpOptionType,
@@ -45,12 +45,12 @@ pub struct NdpOption {
 }
 
 // A place in the option bytes. A place beyond them is that of a stopped walk.
-#[derive(Drop)]
+#[derive(Clone, Copy)]
 pub struct Cursor {
     pub at: usize,
 }
 
-#[derive(Drop)]
+#[derive(Clone, Copy)]
 pub enum Step {
     Handed(NdpOption, Cursor),
     // The bytes are used up.
@@ -61,7 +61,7 @@ pub enum Step {
 }
 
 // An option at the head of a rest. As a struct its fields lie where those of a Refusal lie, and a step keeps both in the same registers.
-#[derive(Drop)]
+#[derive(Clone, Copy)]
 struct Found {
     kind: NdpOptionKind,
     option_type: NdpOptionType,
@@ -69,7 +69,7 @@ struct Found {
 }
 
 // What stands at the head of a rest: nothing, no option, or an option.
-#[derive(Drop)]
+#[derive(Clone, Copy)]
 enum Judged {
     Over,
     Bad(Refusal),

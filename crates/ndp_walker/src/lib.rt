@@ -11,7 +11,7 @@ use ndp_options::{Cursor, Edition, Step};
 
 // The option bytes, the offset at which they begin in the packet, the edition of the walk as a number (`Edition::of`), and a place among them. The
 // walker holds the edition: steps now in one and now in the other could come to the End of a list that the second refuses.
-#[derive(Drop)]
+#[derive(Clone, Copy)]
 pub struct Walker<'a> {
     pub options: &'a [u8],
     pub offset: usize,

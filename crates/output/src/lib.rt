@@ -7,7 +7,7 @@ ghost use Rattle.output.specs.Output.{written_told, room_for, numbers_for, leave
 use refusal::Refusal;
 
 // The place behind what was written (its length, if it was written at the start), or why nothing was written.
-#[derive(Drop)]
+#[derive(Clone, Copy)]
 pub enum Written {
     To(usize),
     Refused(Refusal),

@@ -13,7 +13,7 @@ pub const MIN_LEN: usize = 8;
 // The longest packet: what the pseudo-header's length field of 32 bits can say.
 pub const MAX_ICMPV6_BYTE_LEN: usize = 4294967295;
 
-#[derive(Drop)]
+#[derive(Clone, Copy)]
 pub enum PacketLength {
     Fits,
     Refused(Refusal),

@@ -15,7 +15,7 @@ const ON_LINK_MASK: u8 = 128;
 
 const AUTONOMOUS_ADDRESS_CONFIGURATION_MASK: u8 = 64;
 
-#[derive(Drop)]
+#[derive(Clone, Copy)]
 pub struct PrefixInformation {
     // How many leading bits of the prefix are valid. Not tested: it may be above 128.
     pub prefix_length: u8,
@@ -28,7 +28,7 @@ pub struct PrefixInformation {
 }
 
 // What the option says stands beside the answer, since no enum may hold an array. All 0 if the option is refused.
-#[derive(Drop)]
+#[derive(Clone, Copy)]
 pub struct PrefixInformationRead {
     pub answer: NdpOptionRead,
     pub information: PrefixInformation,

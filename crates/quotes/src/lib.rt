@@ -25,7 +25,7 @@ const IP_VERSION: u8 = 6;
 
 const NEXT_HEADER_ICMPV6: u8 = 58;
 
-#[derive(Drop)]
+#[derive(Clone, Copy)]
 pub enum ChainAnswer {
     Whole,
     Refused(Refusal),
@@ -33,21 +33,21 @@ pub enum ChainAnswer {
 
 // The outer kind, and for each level the quote's place, its next header and its message's kind: 1 + 3 * levels numbers, and 0 behind them. A level's
 // message begins 40 bytes behind its quote where the next header is 58; elsewhere there is none, and the kind is 0.
-#[derive(Drop)]
+#[derive(Clone, Copy)]
 pub struct Chain {
     pub levels: usize,
     pub numbers: [u32; 25],
 }
 
 // The chain stands beside the answer, since no enum may hold an array. All 0 if it is refused.
-#[derive(Drop)]
+#[derive(Clone, Copy)]
 pub struct ChainRead {
     pub answer: ChainAnswer,
     pub chain: Chain,
 }
 
 // A message's kind, and from where to where in the packet its quote stands.
-#[derive(Drop)]
+#[derive(Clone, Copy)]
 enum Found {
     Nothing(u8),
     Quote(u8, usize, usize),
@@ -55,7 +55,7 @@ enum Found {
 }
 
 // Where in the list of numbers a chain ends, or why there is none.
-#[derive(Drop)]
+#[derive(Clone, Copy)]
 enum Read {
     To(usize),
     Refused(Refusal),

@@ -23,7 +23,7 @@ use receive_rules::{
 };
 use refusal::{NdpOptionType, Refusal};
 
-#[derive(Drop)]
+#[derive(Clone, Copy)]
 pub enum Received {
     // What the packet is and where its parts are: its options are whole in the edition, and are the bytes from `options_at` on.
     Accepted(Icmpv6PayloadSlice),
@@ -33,7 +33,7 @@ pub enum Received {
 
 // A packet that was judged: what it is, whether its checksum is right, and the reason not to receive it, 0 where there is none. Of a packet whose
 // length is refused, which `opened` says, there is none.
-#[derive(Drop)]
+#[derive(Clone, Copy)]
 pub struct Judged {
     pub opened: PayloadRead,
     pub valid: bool,

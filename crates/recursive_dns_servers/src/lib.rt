@@ -15,14 +15,14 @@ const FIXED_PART_LEN: usize = 8;
 const ADDRESS_LEN: usize = 16;
 
 // For how many seconds the servers may be used, how many they are, and the option's place in the packet.
-#[derive(Drop)]
+#[derive(Clone, Copy)]
 pub struct RecursiveDnsServers {
     pub lifetime: u32,
     pub count: usize,
     pub place: usize,
 }
 
-#[derive(Drop)]
+#[derive(Clone, Copy)]
 pub enum ServersRead {
     Servers(RecursiveDnsServers),
     Refused(Refusal),

@@ -6,15 +6,15 @@ ghost use Rattle.refusal.specs.Table.{number, values};
 ghost use Rattle.refusal.specs.Paper.{refusal, numbers_of};
 
 // The type field of a Neighbor Discovery option (RFC 4861, section 4.6).
-#[derive(Drop)]
+#[derive(Clone, Copy)]
 pub struct NdpOptionType(pub u8);
 
 // The length field of an option, in units of eight octets: never a number of bytes.
-#[derive(Drop)]
+#[derive(Clone, Copy)]
 pub struct LengthUnits(pub u8);
 
 // The variants stand in the order of the table: 1 to 23. A place is that in the whole packet.
-#[derive(Drop)]
+#[derive(Clone, Copy)]
 pub enum Refusal {
     ShortPacket {
         least: usize,
@@ -96,7 +96,7 @@ pub enum Refusal {
 }
 
 // A refusal as numbers: its number, how many values it carries, and the values, 0 past the last.
-#[derive(Drop)]
+#[derive(Clone, Copy)]
 pub struct Numbers {
     pub number: u8,
     pub count: usize,

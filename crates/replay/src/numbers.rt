@@ -4,7 +4,7 @@ ghost use Rattle.std.specs.Prelude.{◌<◌, ◌≤◌};
 use refusal::Refusal;
 
 // The first `count` of the values are the answer; no single answer has more.
-#[derive(Drop)]
+#[derive(Clone, Copy)]
 pub(crate) struct Told {
     pub count: usize,
     pub values: [u64; 12],

@@ -5,7 +5,7 @@ use ndp_options::{Cursor, Edition, NdpOption, Step};
 use refusal::Refusal;
 
 // The walk's place, the place in the answer up to which it was met, and whether to go on.
-#[derive(Drop)]
+#[derive(Clone, Copy)]
 struct Walking {
     place: usize,
     met: usize,

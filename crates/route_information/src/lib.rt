@@ -11,7 +11,7 @@ use router_preference::RouterPreference;
 
 const ROUTE_INFORMATION: NdpOptionType = NdpOptionType(24);
 
-#[derive(Drop)]
+#[derive(Clone, Copy)]
 pub struct RouteInformation {
     // How many leading bits of the prefix are valid: at most 128. Bits of the prefix behind them are not looked at.
     pub prefix_length: u8,
@@ -23,7 +23,7 @@ pub struct RouteInformation {
 }
 
 // With the option's place in the packet. Ignored: the preference is the reserved one, and nobody may use the route.
-#[derive(Drop)]
+#[derive(Clone, Copy)]
 pub enum RouteAnswer {
     Route(usize),
     Ignored(usize),
@@ -31,7 +31,7 @@ pub enum RouteAnswer {
 }
 
 // What the option says stands beside the answer, since no enum may hold an array. All 0 unless the answer is Route.
-#[derive(Drop)]
+#[derive(Clone, Copy)]
 pub struct RouteInformationRead {
     pub answer: RouteAnswer,
     pub information: RouteInformation,

@@ -4,7 +4,7 @@
 ghost use Rattle.std.specs.Prelude.{◌≡◌};
 ghost use Rattle.router_preference.specs.Preference.{preference_bits, is_reserved, preference_of, preference_number};
 
-#[derive(Drop)]
+#[derive(Clone, Copy)]
 pub enum RouterPreference {
     Medium,
     High,

@@ -7,7 +7,7 @@ ghost use Rattle.checksum.specs.Icmpv6.{pseudo_words};
 ghost use Rattle.running_sum.specs.Parts.{join_of, over, ◌then◌, Over};
 
 // The sum so far, and whether an odd number of bytes is in it.
-#[derive(Drop)]
+#[derive(Clone, Copy)]
 pub struct RunningSum {
     pub sum: u16,
     pub odd: bool,

@@ -15,7 +15,7 @@ use checksum::Verdict;
 use packet_length::PacketLength;
 
 // A total of 64 bits and the carry that is still to be added to it.
-#[derive(Drop)]
+#[derive(Clone, Copy)]
 struct Chain {
     low: u64,
     carry: u64,

@@ -20,7 +20,7 @@ use refusal::Refusal;
 pub const MAX_PAYLOAD_LEN: usize = 65527;
 
 // Whether a value and a payload make a packet, whatever the output.
-#[derive(Drop)]
+#[derive(Clone, Copy)]
 enum Sendable {
     Yes,
     Refused(Refusal),
