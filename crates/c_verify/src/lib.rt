@@ -3,17 +3,10 @@
 
 ghost use Rattle.std.specs.Prelude.{◌≡◌};
 ghost use Rattle.checksum.specs.Icmpv6.{verdict_of};
-ghost use Rattle.c_verify.specs.Verified.{verified_for};
+ghost use Rattle.c_verified.specs.Verified.{verified_for};
 
+use c_verified::Verified;
 use checksum::Verdict;
-
-#[repr(C)]
-#[derive(Clone, Copy)]
-pub struct Verified {
-    pub answer: u32,
-    pub refusal: u32,
-    pub value: [u64; 5],
-}
 
 #[unsafe(no_mangle)]
 pub extern "C" fn brothladder_verify(

@@ -3,9 +3,9 @@
 
 ghost use Rattle.std.specs.Prelude.{◌≡◌};
 ghost use Rattle.checksum.specs.Icmpv6.{verdict_of};
-ghost use Rattle.c_verify.specs.Verified.{verified_for};
+ghost use Rattle.c_verified.specs.Verified.{verified_for};
 
-use c_verify::Verified;
+use c_verified::Verified;
 use checksum::Verdict;
 
 #[unsafe(no_mangle)]

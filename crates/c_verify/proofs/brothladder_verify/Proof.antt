@@ -1,6 +1,6 @@
 -- `brothladder_verify` meets its contract: in each arm the promise of `verify` is rewritten to the case that the arm matched.
 -- Assumes nothing.
-use Rattle.c_verify.specs.Verified.{verified_for}
+use Rattle.c_verified.specs.Verified.{verified_for}
 use Rattle.refusal.proofs.Paper.{refusal-numbered}
 use borrow.Author.Rules.{rules}
 use Rattle.c_verify.proofs.brothladder_verify.Statement.{statement}

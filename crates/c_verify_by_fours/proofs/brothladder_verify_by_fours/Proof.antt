@@ -1,6 +1,6 @@
 -- `brothladder_verify_by_fours` meets its contract: in each arm the promise of `wide_sum::verify_by_fours` is rewritten to the case that the arm matched.
 -- Assumes nothing.
-use Rattle.c_verify.specs.Verified.{verified_for}
+use Rattle.c_verified.specs.Verified.{verified_for}
 use Rattle.refusal.proofs.Paper.{refusal-numbered}
 use borrow.Author.Rules.{rules}
 use Rattle.c_verify_by_fours.proofs.brothladder_verify_by_fours.Statement.{statement}
