@@ -9,6 +9,7 @@ use c_verified::Verified;
 use checksum::Verdict;
 
 #[unsafe(no_mangle)]
+#[tactic(auto, unfolding(c_verified::specs::Verified::verified_for))]
 pub extern "C" fn brothladder_verify(
     packet: &[u8],
     source: &[u8; 16],

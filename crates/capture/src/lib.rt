@@ -38,6 +38,7 @@ pub enum Next {
 
 // The record at a place of `capture`, whose own first byte is `base` bytes from the start of the whole capture.
 // A place beyond the bytes is refused like a record that is cut off: it is not the end of the capture.
+#[tactic(auto, unfolding(crate::specs::Record::next_of))]
 pub fn next_record(capture: &[u8], at: usize, base: u64) -> Next
     ensures { next_paper result ≡ next_of capture.now at base }
 {
@@ -49,6 +50,7 @@ pub fn next_record(capture: &[u8], at: usize, base: u64) -> Next
 }
 
 // The record that `left` begins with.
+#[tactic(auto, unfolding(crate::specs::Record::allowed, crate::specs::Record::record_of))]
 fn first_record(left: &[u8], at: usize, place: u64) -> Next
     requires { at + length left.now < 18446744073709551616 }
     ensures { next_paper result ≡ record_placed at (record_of left.now place) }
@@ -83,6 +85,7 @@ fn first_record(left: &[u8], at: usize, place: u64) -> Next
 }
 
 // Whether bytes begin with one of the marks.
+#[tactic(auto, unfolding(crate::specs::Record::marked))]
 fn marked(left: &[u8]) -> bool
     ensures { result ≡ record_marked left.now }
 {

@@ -34,6 +34,7 @@ pub enum Verdict {
 }
 
 // Adds the carries back in until 16 bits are left. For 32 bits two rounds are enough.
+#[tactic(auto, unfolding(crate::specs::Running::folded))]
 fn fold(total: u32) -> u16
     ensures { result ≡ folded total }
 {
@@ -100,6 +101,7 @@ fn pseudo_total(source: &[u8; 16], destination: &[u8; 16], length: u32) -> u32
 }
 
 // The checksum of the packet made of a head and a payload, whatever the head's checksum field holds.
+#[tactic(auto, unfolding(crate::specs::Icmpv6::computed_of, crate::specs::Icmpv6::checksum_of))]
 pub fn checksum_of(
     head: [u8; 8],
     payload: &[u8],

@@ -35,6 +35,7 @@ pub enum DestUnreachableListing {
 }
 
 impl DestUnreachableCode {
+    #[tactic(auto, unfolding(crate::specs::Codes::listed))]
     pub fn from_u8(code: u8) -> DestUnreachableListing
         ensures { dest_told result ≡ listed 7 code }
     {

@@ -47,6 +47,7 @@ pub enum ParameterProblemListing {
 }
 
 impl ParameterProblemCode {
+    #[tactic(auto, unfolding(crate::specs::Codes::listed))]
     pub fn from_u8(code: u8) -> ParameterProblemListing
         ensures { problem_told result ≡ listed 11 code }
     {

@@ -20,6 +20,7 @@ pub enum TimeExceededListing {
 }
 
 impl TimeExceededCode {
+    #[tactic(auto, unfolding(crate::specs::Codes::listed))]
     pub fn from_u8(code: u8) -> TimeExceededListing
         ensures { time_told result ≡ listed 2 code }
     {

@@ -46,6 +46,7 @@ pub enum Icmpv6Type {
 
 impl Icmpv6Type {
     // The value of a type, a code and bytes 4 to 7; a pair that the table does not have is Unknown.
+    #[tactic(auto, unfolding(crate::specs::Value::type_of))]
     pub fn from_parts(type_u8: u8, code_u8: u8, bytes5to8: [u8; 4]) -> Icmpv6Type
         ensures { type_told result ≡ type_of type_u8 code_u8 bytes5to8 }
     {

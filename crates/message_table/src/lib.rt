@@ -93,6 +93,7 @@ fn row_of(kind: u8) -> Row
 }
 
 // Whether the table has a type with this code.
+#[tactic(auto, unfolding(crate::specs::Table::known))]
 pub fn is_known(kind: u8, code: u8) -> bool
     ensures { result ≡ known kind code }
 {
@@ -101,6 +102,7 @@ pub fn is_known(kind: u8, code: u8) -> bool
 }
 
 // The length of a type's fixed part, whatever the code; 0 if the table does not have the type.
+#[tactic(auto, unfolding(crate::specs::Table::fixed_len))]
 pub fn fixed_len(kind: u8) -> usize
     ensures { result ≡ fixed_len kind }
 {

@@ -19,6 +19,7 @@ pub enum PacketLength {
     Refused(Refusal),
 }
 
+#[tactic(auto, unfolding(crate::specs::Length::sized))]
 pub fn check_len(length: usize) -> PacketLength
     ensures { length_told result ≡ sized length (gives []) }
 {

@@ -15,6 +15,7 @@ fn both(a: bool, b: bool) -> bool
     if a { b } else { false }
 }
 
+#[tactic(auto, unfolding(crate::specs::Reasons::first_of))]
 pub fn router_solicitation(source: &[u8; 16], listed: bool) -> u8
     ensures { result ≡ first_of (router_solicitation source.now listed) }
 {
@@ -25,12 +26,14 @@ pub fn router_solicitation(source: &[u8; 16], listed: bool) -> u8
     }
 }
 
+#[tactic(auto, unfolding(crate::specs::Reasons::first_of))]
 pub fn router_advertisement(source: &[u8; 16]) -> u8
     ensures { result ≡ first_of (router_advertisement source.now) }
 {
     if is_link_local(source) { 0 } else { 6 }
 }
 
+#[tactic(auto, unfolding(crate::specs::Reasons::first_of))]
 pub fn neighbor_solicitation(
     source: &[u8; 16],
     destination: &[u8; 16],
@@ -49,6 +52,7 @@ pub fn neighbor_solicitation(
     if both(nobody, listed) { 8 } else { 0 }
 }
 
+#[tactic(auto, unfolding(crate::specs::Reasons::first_of))]
 pub fn neighbor_advertisement(destination: &[u8; 16], flags: u8, target: &[u8]) -> u8
     ensures { result ≡ first_of (neighbor_advertisement destination.now flags target.now) }
 {
@@ -58,6 +62,7 @@ pub fn neighbor_advertisement(destination: &[u8; 16], flags: u8, target: &[u8]) 
     if is_multicast(target) { 7 } else { 0 }
 }
 
+#[tactic(auto, unfolding(crate::specs::Reasons::first_of))]
 pub fn redirect(source: &[u8; 16], target: &[u8], field: &[u8]) -> u8
     ensures { result ≡ first_of (redirect source.now target.now field.now) }
 {

@@ -52,6 +52,7 @@ pub fn flag_of(set: bool, weight: u8) -> u8
 }
 
 // Whether bytes begin with a prefix. All bytes begin with an empty one.
+#[tactic(auto, unfolding(crate::specs::Prefix::begins))]
 pub fn begins_with(bytes: &[u8], prefix: &[u8]) -> bool
     ensures { result ≡ begins prefix.now bytes.now }
 {
