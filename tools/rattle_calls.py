@@ -25,6 +25,11 @@ def brought(file):
     found = {}
     for m in re.finditer(r"(?<!ghost )\buse\s+([\w:]+?)(?:\s+as\s+(\w+))?\s*;", code):
         found[m[2] or m[1].split("::")[-1]] = m[1]
+    for m in re.finditer(r"(?<!ghost )\buse\s+([\w:]+)::\{([^{}]*)\}\s*;", code):
+        for item in m[2].split(","):
+            words = item.split()
+            if words:
+                found[words[-1]] = m[1] if words[0] == "self" else f"{m[1]}::{words[0]}"
     return found
 
 

@@ -14,7 +14,7 @@ ROOT = os.path.dirname(os.path.dirname(os.path.abspath(__file__)))
 def dependencies():
     """crates.txt: each crate, in its order, with the crates that it is built on."""
     lines = [x.split("#")[0].strip() for x in read("crates.txt").split("\n")]
-    return {x.split(":")[0].strip(): x.split(":")[1].split() for x in lines if x}
+    return {x.split(":")[0].split()[0]: x.split(":")[1].split() for x in lines if x}
 
 
 def crates():
@@ -52,7 +52,7 @@ def files():
     """Every file of the tree, but for what is built and what git keeps."""
     found = []
     for at, folders, names in os.walk(ROOT):
-        folders[:] = sorted(f for f in folders if f not in ("target", ".git", "__pycache__"))
+        folders[:] = sorted(f for f in folders if f not in ("target", "out", ".git", "__pycache__"))
         found += [os.path.relpath(f"{at}/{n}", ROOT) for n in sorted(names) if n != ".git"]
     return found
 
@@ -181,8 +181,13 @@ class Source:
             attributes, marks = [], []
             while self.bare[at] == "#":
                 to = self.close(self.bare.index("[", at))
-                attributes.append(self.code[at:to])
+                # an inner attribute is the file's, and not the next item's
+                if self.bare[at + 1] != "!":
+                    attributes.append(self.code[at:to])
                 at = self.skip(to)
+                # (a root file of inner attributes alone)
+                if at >= end:
+                    return
             if any(re.match(r"#!?\[\s*(path|cfg)", a) for a in attributes):
                 self.fail(at, f"{attributes[0]} is not understood")
             start = at
@@ -283,6 +288,9 @@ def stray(crate):
 
 
 # ---- antt
+
+# the files that a function's proof may have, in the folder that bears its name
+PROOF_FILES = ("Proof", "Invariants", "Answers")
 
 ANTT = re.compile(r'(?P<text>"(?:\\.|[^"\\])*")|(?P<name>«[^»\n]*»)|(?P<block>\{-)|(?<![^\s(){}\[\];,])(?P<comment>--[^\n]*)')
 
@@ -415,12 +423,15 @@ def modules(crate, kind):
             roots.update({".".join(m): f"{base}/{'/'.join(m)}.antt" for m in below})
             for f in source.found:
                 if f.kind == "fn":
-                    roots[f.path.replace("::", ".") + ".Proof"] = f"{base}/{f.path.replace('::', '/')}/Proof.antt"
-        # a cycle of calls stands under the names of its functions, as +even+odd
-        names = {f.path.split("::")[-1] for f in functions(crate)}
-        for file in files_below(base, "/Proof.antt"):
+                    for part in PROOF_FILES:
+                        roots[f.path.replace("::", ".") + "." + part] = f"{base}/{f.path.replace('::', '/')}/{part}.antt"
+        # a cycle of calls stands under the names of its functions, as +even_odd, or under the name that `#[cycle(name)]` gives it
+        names = "|".join(re.escape(f.path.split("::")[-1]) for f in functions(crate))
+        named = {m for f in sources(crate) for m in re.findall(r"#\[cycle\((\w+)\)\]", read(f))}
+        for file in (f for part in PROOF_FILES for f in files_below(base, f"/{part}.antt")):
             at = file[len(base) + 1:-5]
-            if at.split("/")[-2].startswith("+") and set(at.split("/")[-2].split("+")[1:]) <= names:
+            cycle = at.split("/")[-2] if "/" in at else ""
+            if cycle.startswith("+") and (cycle[1:] in named or re.fullmatch(rf"({names})(_({names}))*", cycle[1:])):
                 roots[at.replace("/", ".")] = file
     found, todo = {}, [(m, f) for m, f in roots.items() if exists(f)]
     while todo:
@@ -460,7 +471,7 @@ def mentions(name, among):
 
 def module_of(name):
     """A module's name in a `use` line, as (crate, specs or proofs, module below it); None of a module outside of the tree."""
-    m = re.fullmatch(r"Rattle·(\w+?)(?:·(?:specs|proofs))?\.(specs|proofs)(?:\.(.*))?", name)
+    m = re.fullmatch(r"Rattle\.(\w+)\.(specs|proofs)(?:\.(.*))?", name)
     return (m[1], m[2], m[3] or "") if m and m[1] in dependencies() else None
 
 
@@ -479,12 +490,12 @@ def lookup(name):
 
 # ---- uniqueness
 
-SHARED = {"Only": ("Rattle·paper.specs.Only", "Only"), "OnlyBy": ("Rattle·paper.specs.Only", "OnlyBy"), "now": ("denote.Ref", "now")}
+SHARED = {"Only": ("Rattle.paper.specs.Only", "Only"), "OnlyBy": ("Rattle.paper.specs.Only", "OnlyBy"), "now": ("denote.Ref", "now")}
 
 
 def contract(f):
     """The module that has the contract of a function."""
-    return f"Rattle·{f.crate}·proofs.proofs.{f.path.replace('::', '.')}"
+    return f"Rattle.{f.crate}.specs.contracts.{f.path.replace('::', '.')}"
 
 
 @functools.cache
@@ -493,13 +504,13 @@ def unique_theorem(f):
     file = modules(f.crate, "proofs").get("Unique")
     for name, origin in uses(file).items() if file else []:
         here = declared(file)
-        theorem = here.get(f"{name}-unique")
+        theorem = here.get(f"{name}-unique") or here.get(f"{name.replace('_', '-')}-unique")
         if origin != (contract(f), "") or theorem is None or theorem.under or theorem.kind != "def" or "pub" not in theorem.marks:
             continue
         # each word is the shared one: a declaration of its own cannot bear the name of one that is brought in
-        over = f"(λ M 𝓤. {name}.clauses 𝓤)"
-        forms = {f"{name}-unique : Only {name}.ended {over}": ["Only"], f"{name}-unique : OnlyBy {name}.ended (λ κs. now) {over}": ["OnlyBy", "now"]}
-        words = forms.get(" ".join(theorem.type.split()))
+        over = f"(λ M 𝓤. {name}.clauses)"
+        forms = {f"Only {name}.ended {over}": ["Only"], f"OnlyBy {name}.ended (λ κs. (λ x. x.now)) {over}": ["OnlyBy"]}
+        words = forms.get(" ".join(theorem.type.split()).split(" : ", 1)[-1])
         if words and all(uses(file).get(w) == SHARED[w] and w not in here for w in words):
             return theorem.name
     return None

@@ -52,14 +52,14 @@ def theorem(name):
 LOW = part("the low byte written twice", "[(x / 256 % 256) as u8, (x % 256) as u8]", "[(x / 1 % 256) as u8, (x % 256) as u8]")
 LOW_AGAIN = part("the low byte and its neighbour", "(x % 256) as u8]", "(x % 255) as u8]")
 WEIGHT = part("a weight of 1 names no flag", "if weight == 0 {", "if weight < 2 {")
-OPEN = part("two flags meet the promise", "ensures { λ r. ⌜ r ≡ flagOf set weight ⌝ }", "ensures { λ r. ⌜ r ≡ r ⌝ }")
-OPEN_WORD = part("two words meet the promise", "ensures { λ r. ⌜ r ≡ word16 a b ⌝ }", "ensures { λ r. ⌜ r ≡ r ⌝ }")
-DEFINED = part("a definition", "hasFlag x w = eqb (x / w % 2) 1", "hasFlag x w = eqb 1 1", "specs/Wire.antt")
+OPEN = part("two flags meet the promise", "result ≡ flag_of set weight", "result ≡ result")
+OPEN_WORD = part("two words meet the promise", "result ≡ word16 a b", "result ≡ result")
+DEFINED = part("a definition", "has_flag x w = eqb (x / w % 2) 1", "has_flag x w = eqb 1 1", "specs/Wire.antt")
 # a constant, what names it, and what calls that
 REDIRECT = part("a constant", "TYPE_REDIRECT_MESSAGE: u8 = 137", "TYPE_REDIRECT_MESSAGE: u8 = 138", "src/types.rt")
 ROW = part("the search goes on", "if row.kind == kind {", "if row.kind == 1 {")
-ROW_OPEN = part("a row left open", "r ≡ rowOf rows kind", "r ≡ r")
-OPEN_TYPE = part("two types meet the promise", "r ≡ typeNumber self", "r ≡ r")
+ROW_OPEN = part("a row left open", "result ≡ row_of rows kind", "result ≡ result")
+OPEN_TYPE = part("two types meet the promise", "result ≡ type_number self", "result ≡ result")
 CODE_KNOWN = part("the code behind the last one is known", "code < row.codes", "code <= row.codes")
 EXCHANGED = part("parameters exchanged", "step_at(options: &[u8], offset: usize, at: usize,", "step_at(options: &[u8], at: usize, offset: usize,")
 STEP = part("a step elsewhere", "step_at(w.options, w.offset, w.at,", "step_at(w.options, w.at, w.at,")
@@ -94,7 +94,7 @@ EDITS = [
     ("a function's wrong code and its promise left open", "wire/tried: flag_of may be refused for another part: a flag written",
      {WIRE + "tried.edit": OPEN + part("a flag written", "if set { weight } else { 0 }", "if set { weight } else { 1 }")}),
     ("a promise left open twice", "wire/tried: flag_of changes in two parts: two flags meet the promise",
-     {WIRE + "tried.edit": OPEN + part("again", "    ensures { λ r. ⌜ r ≡ r ⌝ }", "    ensures { λ r. ⌜ set ≡ set ⌝ }")}),
+     {WIRE + "tried.edit": OPEN + part("again", "result ≡ result", "set ≡ set")}),
     ("wrong code that names a wrong constant", "message_table/tried: row_of may be refused for another part: the search goes on",
      {"crates/message_table/must-fail/tried.edit": REDIRECT + ROW}),
     ("wrong code that calls a function whose promise is left open", "message_table/tried: is_known may be refused for another part: the code behind the last one is known",
@@ -105,7 +105,7 @@ EDITS = [
      {WIRE + "tried.edit": DEFINED + LOW}),
     ("a public function whose code no edit changes", "wire::flag_of: no edit changes its code", without("wire", "flag_of")),
     ("a public function of which edits change the promise alone", "wire::flag_of: no edit changes its code",
-     {**without("wire", "flag_of"), WIRE + "tried.edit": edit("file: src/lib.rt", "old: r ≡ flagOf set weight", "new: r ≡ flagOf set 1")}),
+     {**without("wire", "flag_of"), WIRE + "tried.edit": edit("file: src/lib.rt", "old: result ≡ flag_of set weight", "new: result ≡ flag_of set 1")}),
     ("a public function whose code an edit changes by a comment", "wire::flag_of: no edit changes its code",
      {**without("wire", "flag_of"), WIRE + "tried.edit": edit("file: src/lib.rt", "old: // The weight of a flag", "new: // A weight of a flag")}),
     ("a public function that shares the function that an edit changes", "checksum::sum: no edit changes its code",

@@ -104,7 +104,7 @@ MISTAKES = [
     ("high told as low", {HEADER: instead("PREFERENCE_HIGH 1u", "PREFERENCE_HIGH 3u")}, ["header"]),
     ("an argument left out of a prototype", {HEADER: instead("read_prefix(const uint8_t *option, size_t length, size_t offset);", "read_prefix(const uint8_t *option, size_t length);")}, ["header"]),
     ("another number for the first edition", {HEADER: instead("EDITION_FIRST 1u", "EDITION_FIRST 2u")}, ["header"]),
-    ("another number for the second edition", {EDITIONS: instead("editionOf n = cond (eqb n 2)", "editionOf n = cond (eqb n 3)")}, ["header"]),
+    ("another number for the second edition", {EDITIONS: instead("edition_of n = cond (eqb n 2)", "edition_of n = cond (eqb n 3)")}, ["header"]),
     ("every number but 1 the second edition", {EDITIONS: instead("(eqb n 2) Second First", "(eqb n 1) First Second")}, ["header"]),
     ("no edition in a prototype", {HEADER: instead("size_t offset, size_t at, uint32_t edition);", "size_t offset, size_t at);")}, ["header"]),
     ("another version in the header", {HEADER: instead("VERSION 6u", "VERSION 7u")}, ["header"]),

@@ -27,7 +27,7 @@ CASES = [
     ("a sender by the default", f"{SENDER}: send writes by write_packet, and a sender clears", {SENDER: instead("match write_packet_clearing(", "match write_packet(")}),
     ("a sender by the default's other name", f"{SENDER}: send writes by write_packet_keeping", {SENDER: instead("match write_packet_clearing(", "match write_packet_keeping(")}),
     ("a sender by the default under a name of its own", f"{SENDER}: send writes by write_packet,",
-     {SENDER: lambda text: instead("use writer::write_packet;", "use writer::write_packet; use writer::write_packet as put_packet;")(instead("match write_packet_clearing(", "match put_packet(")(text))}),
+     {SENDER: lambda text: instead("use writer::{write_packet, ", "use writer::{write_packet, write_packet as put_packet, ")(instead("match write_packet_clearing(", "match put_packet(")(text))}),
     ("a sender whose head is written by the default", f"{SENDER}: is_as_made writes by to_bytes,", {SENDER: instead("header.to_bytes_clearing()", "header.to_bytes()")}),
     ("a sender that seals what it kept", f"{SENDER}: is_as_made writes by sealed_keeping,", {SENDER: instead("match to_header(icmp_type,", "match icmpv6_checksum::sealed_keeping(icmp_type,")}),
     ("stored answers compared by the default", f"{STORED}: bytes_told writes by to_bytes,", {STORED: instead("h.to_bytes_clearing()", "h.to_bytes()")}),
