@@ -107,6 +107,16 @@ def changes(text):
     return found
 
 
+def applied(crate, label):
+    """The texts of the files that an edit changes, by their paths in the crate."""
+    now = {}
+    for _, changed in changes(source.read(f"crates/{crate}/must-fail/{label}.edit")):
+        for file, old, new in changed:
+            text = now.get(file, source.read(f"crates/{crate}/{file}"))
+            now[file] = text.replace(old, new, 1)
+    return now
+
+
 def part(crate, wrong, changed, now):
     """One part, applied to the texts that the parts before it left, and why it is none."""
     faults, touched, before, after, was = [], [], [], [], dict(now)

@@ -22,11 +22,24 @@ def crates():
 
 
 def libraries():
-    return [c for c in crates() if os.path.exists(f"{ROOT}/crates/{c}/src/lib.rt")]
+    """The crates of the library: each that is no program, and does not serve the programs alone."""
+    return [c for c in crates() if os.path.exists(f"{ROOT}/crates/{c}/src/lib.rt") and not reaches_outside(c)]
+
+
+@functools.cache
+def reaches_outside(crate):
+    """Whether a crate reads, writes or prints. What a file or a terminal gives no contract can say, so what it promises leaves more than one answer: such
+    crates serve the programs, and are no part of the library."""
+    return any(re.search(r"\bstd::(io|rt|fs|env)\b|\bHostRuntime\b", rattle_code(read(f))) for f in files_below(f"crates/{crate}/src", ".rt"))
 
 
 def programs():
     return [c for c in crates() if os.path.exists(f"{ROOT}/crates/{c}/src/main.rt")]
+
+
+def static_libraries():
+    """The crates whose functions C calls."""
+    return re.findall(r"(?m)^(\w+) staticlib:", read("crates.txt"))
 
 
 @functools.cache

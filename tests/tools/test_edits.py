@@ -37,16 +37,17 @@ def without(crate, function, kind="code"):
 
 def own(function, fact="returns", said="no proof"):
     """The error of a function's own proof."""
-    return f"target/must-fail/wire/tried/proofs/{function}/Proof.antt:9:13: error: `{fact}`: {said}\n"
+    return f"./proofs/{function}/Answers.antt:9:13: error: `{fact}`: {said}\n"
 
 
 def made(function, fact="returns"):
     """What is said of a function whose proof rattle makes."""
-    return f"note: src/lib.rt:18:1: it is not proved that what it ensures holds (`{fact}`)\nfn wire::{function}: no proof: expected `x` in y; `search` does not close `{fact}`\n"
+    return (f"fn wire::{function}: no proof: expected answers in ./proofs/{function}/Answers.antt; `search` did not prove `{fact}`\n"
+            f"note: src/lib.rt:18:1: it is not proved that what the function ensures holds when it returns (`{fact}`); `search` gave up at one of its limits\n")
 
 
 def theorem(name):
-    return f"target/must-fail/wire/tried/proofs/Unique.antt:9:1: error: `{name}`: no\n"
+    return f"./proofs/Unique.antt:9:1: error: `{name}`: no\n"
 
 
 LOW = part("the low byte written twice", "[(x / 256 % 256) as u8, (x % 256) as u8]", "[(x / 1 % 256) as u8, (x % 256) as u8]")
@@ -64,6 +65,7 @@ CODE_KNOWN = part("the code behind the last one is known", "code < row.codes", "
 EXCHANGED = part("parameters exchanged", "step_at(options: &[u8], offset: usize, at: usize,", "step_at(options: &[u8], at: usize, offset: usize,")
 STEP = part("a step elsewhere", "step_at(w.options, w.offset, w.at,", "step_at(w.options, w.at, w.at,")
 DIGITS = part("digits", "let next = put_decimal(out, at, n / 100);", "let next = put_decimal(out, at, n / 10);")
+LEVEL = part("the next header read from byte 7", "let next_header = s[6];", "let next_header = s[7];")
 # what is tried; what tools/edits must say; the files that are written (no text: removed)
 EDITS = [
     ("an edit of a proof", "wire/tried: proofs/has_flag/Proof.antt is no file of src/ or specs/",
@@ -117,24 +119,24 @@ EDITS = [
 LOGS = [
     ("a fact that is not proved", WEIGHT, own("has_flag"), None),
     ("a fact that rattle does not prove", LOW, made("u16_to_be"), None),
-    ("the requirement of a call named as an operation", WEIGHT, own("has_flag", "part-requires-2"), None),
-    ("a lemma named as an operation", WEIGHT, own("has_flag") + "target/must-fail/wire/tried/proofs/Sums.antt:3:1: error: `add-one`: no proof\n", None),
-    ("a proof that does not join its facts", WEIGHT, own("has_flag", "has-flag-spec", "too few arguments"), "has_flag is not refused by itself"),
+    ("the requirement of a call named as an operation", WEIGHT, own("has_flag", "bounds-requires-2"), None),
+    ("a lemma named as an operation", WEIGHT, own("has_flag") + "./proofs/Sums.antt:3:1: error: `overflow_add-one`: no proof\n", None),
+    ("a proof that does not join its facts", WEIGHT, own("has_flag", "has_flag_spec", "too few arguments"), "has_flag is not refused by itself"),
     ("a function that no part touches is refused too", WEIGHT, own("has_flag") + own("flag_of"), "flag_of is refused, and no part touches it"),
     ("a theorem that no part touches is refused too", OPEN, theorem("flag-of-unique") + theorem("has-flag-unique"), "has-flag-unique is refused, and no part touches it"),
-    ("a lemma alone", WEIGHT, "target/must-fail/wire/tried/proofs/Sums.antt:3:1: error: `add-one`: no proof\n", "has_flag is not refused by itself"),
+    ("a lemma alone", WEIGHT, "./proofs/Sums.antt:3:1: error: `overflow_add-one`: no proof\n", "has_flag is not refused by itself"),
     ("a promise left open", OPEN, theorem("flag-of-unique"), None),
-    ("a bound", WEIGHT, own("has_flag", "slice-write-out"), "shows nothing"),
-    ("a bound behind another error", WEIGHT, own("has_flag") + own("has_flag", "shared-slice-read-id"), "shows nothing"),
-    ("a bound of another part", LOW + WEIGHT, own("has_flag") + own("u16_to_be", "shared-slice-read-id"), "shows nothing"),
-    ("a part of a slice", LOW, made("u16_to_be", "part-result-end"), "shows nothing"),
-    ("an overflow", WEIGHT, own("has_flag", "add-t6"), "shows nothing"),
-    ("an overflow that rattle does not exclude", LOW, made("u16_to_be", "add-result"), "shows nothing"),
-    ("a cast", LOW, made("u16_to_be", "cast-t5"), "shows nothing"),
-    ("a division", WEIGHT, own("has_flag", "div-result"), "shows nothing"),
-    ("a loop without an end", WEIGHT, own("has_flag", "loop-less"), None),
-    ("a fact that the code does not have", WEIGHT, own("has_flag", "x", "`tie.Need-x`: module `y` has no `Need-x` that can be named from here"), "shows nothing"),
-    ("a field that the code does not have", WEIGHT, own("has_flag", "returns", "record `Lts.Start` has no field `before`"), "shows nothing"),
+    ("a bound", WEIGHT, own("has_flag", "bounds-out-at"), "shows nothing"),
+    ("a bound behind another error", WEIGHT, own("has_flag") + own("has_flag", "bounds-id-0"), "shows nothing"),
+    ("a bound of another part", LOW + WEIGHT, own("has_flag") + own("u16_to_be", "bounds-id-0"), "shows nothing"),
+    ("a part of a slice", LOW, made("u16_to_be", "slice_bounds-result-end"), "shows nothing"),
+    ("an overflow", WEIGHT, own("has_flag", "overflow_add-t6"), "shows nothing"),
+    ("an overflow that rattle does not exclude", LOW, made("u16_to_be", "overflow_add-result"), "shows nothing"),
+    ("a cast", LOW, made("u16_to_be", "overflow_cast-t5"), "shows nothing"),
+    ("a division", WEIGHT, own("has_flag", "nonzero_div-result"), "shows nothing"),
+    ("a loop without an end", WEIGHT, own("has_flag", "loop-smaller"), None),
+    ("a fact that the code does not have", WEIGHT, own("has_flag", "x", "`goal.x`: module `y` has no `x` that can be named from here"), "shows nothing"),
+    ("a field that the code does not have", WEIGHT, own("has_flag", "returns", "record `Goals.Returns` has no field `if-weight-eq0`"), "shows nothing"),
     ("no error", WEIGHT, "", "no error in its log"),
     ("a promise left open that its code alone refuses", OPEN, own("flag_of"), "wire: no edit of a promise is refused at Unique.antt"),
     ("a promise left open that the theorem of another refuses", OPEN, theorem("has-flag-unique"), "the promise of flag_of is not refused by itself: two flags meet the promise"),
@@ -142,17 +144,17 @@ LOGS = [
     ("two parts, each refused", LOW + WEIGHT, own("has_flag") + made("u16_to_be"), None),
     ("two parts, one refused", LOW + WEIGHT, made("u16_to_be"), "has_flag is not refused by itself: a weight of 1 names no flag"),
     ("two parts, one of which follows from another error", LOW + WEIGHT,
-     made("u16_to_be") + own("has_flag", "has-flag-spec", "`close` was not admitted (it was rejected), so this cannot be checked"), "has_flag is not refused by itself"),
+     made("u16_to_be") + own("has_flag", "has_flag_spec", "`close` was not admitted (it was rejected), so this cannot be checked"), "has_flag is not refused by itself"),
     ("two parts, one of which is not proved since it calls the other", LOW + WEIGHT,
      made("u16_to_be") + "fn wire::has_flag: not proved; it calls `wire::u16_to_be`, which is not proved\n", "has_flag is not refused by itself"),
     ("two parts, one of which has no proof that rattle makes, for no fact", LOW + WEIGHT,
-     own("has_flag") + "fn wire::u16_to_be: no proof: expected `u16-to-be-spec` in y\n", "u16_to_be is not refused by itself"),
+     own("has_flag") + "fn wire::u16_to_be: no proof: expected answers in ./proofs/u16_to_be/Answers.antt\n", "u16_to_be is not refused by itself"),
     ("two promises left open, each refused", OPEN + OPEN_WORD, theorem("flag-of-unique") + theorem("u16-from-be-unique"), None),
     ("two promises left open, one refused", OPEN + OPEN_WORD, theorem("flag-of-unique"), "the promise of u16_from_be is not refused by itself: two words meet the promise"),
     ("wrong code and a promise left open, each refused", LOW + OPEN, made("u16_to_be") + theorem("flag-of-unique"), None),
     ("wrong code and a promise left open, the code refused", LOW + OPEN, made("u16_to_be"), "the promise of flag_of is not refused by itself"),
     ("wrong code and a promise left open, the promise refused", LOW + OPEN, theorem("flag-of-unique"), "u16_to_be is not refused by itself"),
-    ("a definition: nothing tells its refusals apart", DEFINED, "target/must-fail/wire/tried/proofs/Laws.antt:3:1: error: `x`: no proof\n", None),
+    ("a definition: nothing tells its refusals apart", DEFINED, "./proofs/Laws.antt:3:1: error: `x`: no proof\n", None),
     ("a constant, and a function that names it is refused", ("message_table", REDIRECT), own("row_of"), None),
     ("a constant, and a function that does not name it is refused", ("message_table", REDIRECT), own("is_known"), "types::TYPE_REDIRECT_MESSAGE is not refused by itself"),
     ("a promise left open, and a function that calls it is refused too", ("icmpv6_type", OPEN_TYPE), theorem("type-u8-unique") + own("Icmpv6Type/kind_u8"), None),
@@ -161,22 +163,22 @@ LOGS = [
     ("parameters exchanged, and a function that calls it is refused", ("ndp_walker", EXCHANGED), own("step"), None),
     ("parameters exchanged, and a function that does not call it is refused", ("ndp_walker", EXCHANGED), own("rest"), "step_at is not refused by itself"),
     ("a function that calls itself", ("dump_lines", DIGITS), own("+put_decimal"), None),
-    ("one of several functions that call one another", ("dump_lines", DIGITS), own("+put_decimal+put_few", "put-decimal-returns"), None),
-    ("another of several functions that call one another", ("dump_lines", DIGITS), own("+put_decimal+put_few", "put-few-returns"), "put_decimal is not refused by itself"),
-    ("a fact of no one among functions that call one another", ("dump_lines", DIGITS), own("+put_decimal+put_few"), "put_decimal is not refused by itself"),
-    ("a bound of one of several functions that call one another", ("dump_lines", DIGITS), own("+put_decimal+put_few", "put-decimal-slice-write-out"), "shows nothing"),
+    ("one of several functions that call one another", ("quotes", LEVEL), own("+message_quote", "quote-returns"), None),
+    ("another of several functions that call one another", ("quotes", LEVEL), own("+message_quote", "message-returns"), "quote is not refused by itself"),
+    ("a fact of no one among functions that call one another", ("quotes", LEVEL), own("+message_quote"), "quote is not refused by itself"),
+    ("a bound of one of several functions that call one another", ("quotes", LEVEL), own("+message_quote", "quote-bounds-numbers-3"), "shows nothing"),
 ]
 
 
-def run(tree, script):
-    done = subprocess.run([f"{tree}/{script}"], cwd=tree, capture_output=True, text=True)
+def run(tree, script, *words):
+    done = subprocess.run([f"{tree}/{script}", *words], cwd=tree, capture_output=True, text=True)
     return done.returncode, done.stdout + done.stderr
 
 
 failed = []
 with tempfile.TemporaryDirectory() as folder:
     tree = folder + "/tree"
-    shutil.copytree(ROOT, tree, ignore=shutil.ignore_patterns("target", ".git", "__pycache__"))
+    shutil.copytree(ROOT, tree, ignore=shutil.ignore_patterns("target", "out", ".git", "__pycache__"))
     code, usual = run(tree, "tools/edits")
     if code:
         failed.append(f"the tree as it is: tools/edits says: {usual[-2000:]}")
@@ -201,7 +203,7 @@ with tempfile.TemporaryDirectory() as folder:
         os.makedirs(at)
         open(tried, "w").write(text)
         open(at + "/.log", "w").write(log + LAST)
-        code, said = run(tree, "tools/refusals")
+        code, said = run(tree, "tools/refusals", "--read")
         shutil.rmtree(tree + "/target")
         os.remove(tried)
         if (code != 0) != (words is not None) or words is not None and words not in said:
