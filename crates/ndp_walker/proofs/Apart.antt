@@ -37,7 +37,7 @@ slice d = slice_val d.options.ref_ptr (length d.options.now)
 
 -- what the walker owns, and what its slice owns
 abbrev pub Own : Lft → Walker → Fml
-Own κ d = (B (κ, tt)).own d (mach d ∷ [])
+Own κ d = (B (κ, tt)).own_val d (mach d ∷ [])
 
 abbrev pub OwnSlice : Lft → Walker → Fml
 OwnSlice κ d = (ShrSlice (named 0) κ u8).own_val d.options (slice d ∷ [])

@@ -1,5 +1,5 @@
 // The walk as a struct that holds its slice (docs/RULES.md W16). Each function takes the walker apart and leaves the work to a function on the
-// slice and the numbers; those over the struct are proved by hand.
+// slice and the numbers.
 #![tactic(auto)]
 
 ghost use Rattle.std.specs.Prelude.{◌≡◌, drop};
