@@ -23,14 +23,18 @@ def crates():
 
 def libraries():
     """The crates of the library: each that is no program, and does not serve the programs alone."""
-    return [c for c in crates() if os.path.exists(f"{ROOT}/crates/{c}/src/lib.rt") and not reaches_outside(c)]
+    return [c for c in crates() if os.path.exists(f"{ROOT}/crates/{c}/src/lib.rt") and c not in SERVING]
+
+
+# the crates that read, write and print for the programs. What a file or a terminal gives no contract can say, so what they promise leaves more than one
+# answer: they are no part of the library
+SERVING = ("system_error", "ends")
 
 
 @functools.cache
 def reaches_outside(crate):
-    """Whether a crate reads, writes or prints. What a file or a terminal gives no contract can say, so what it promises leaves more than one answer: such
-    crates serve the programs, and are no part of the library."""
-    return any(re.search(r"\bstd::(io|rt|fs|env)\b|\bHostRuntime\b", rattle_code(read(f))) for f in files_below(f"crates/{crate}/src", ".rt"))
+    """Whether a crate reads, writes or prints."""
+    return any(re.search(r"\bstd::(io|rt|fs|env|net|process|time)\b|\b(HostRuntime|Print|Eprint)\b", rattle_code(read(f))) for f in files_below(f"crates/{crate}/src", ".rt"))
 
 
 def programs():
@@ -503,7 +507,7 @@ def lookup(name):
 
 # ---- uniqueness
 
-SHARED = {"Only": ("Rattle.paper.specs.Only", "Only"), "OnlyBy": ("Rattle.paper.specs.Only", "OnlyBy"), "now": ("denote.Ref", "now")}
+SHARED = {"Only": ("Rattle.paper.specs.Only", "Only"), "OnlyBy": ("Rattle.paper.specs.Only", "OnlyBy")}
 
 
 def contract(f):
