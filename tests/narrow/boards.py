@@ -3,7 +3,9 @@
 The toolchain makes its intermediate code for x86-64, where a length and an index (`usize`) have 64 bits. A board has words of 32 bits. So each value
 of 64 bits becomes one of 32, unless it is made of something narrower: whatever a byte, a word or a total was widened to stays at 64 bits, and with it
 all that it is added to, compared with, stored in or handed over as. What is left at 64 bits is then data, and a compiler for a board must take two
-words for it."""
+words for it.
+
+`rt try` adds checks to the code that it compiles, some of them in 128 bits. They are taken out first."""
 import re
 import sys
 
@@ -11,6 +13,8 @@ NAME = r'@(?:"[^"]+"|[\w.$]+)'
 VALUE = r"(?:%[\w.]+|-?\d+)"
 MADE = re.compile(r"\s*(?:(%\S+) = )?(?:tail )?(\w+)")
 SAME = {"add", "sub", "mul", "udiv", "urem", "sdiv", "srem", "and", "or", "xor", "shl", "lshr", "ashr", "icmp", "select", "phi", "switch"}
+ASIDE = re.compile(r'call void @"rattle-(?:llvm-checks|try)::|call void @llvm\.memset\.\w+\.i64\(ptr %\S+, i8 -86, ')
+PURE = SAME - {"phi", "switch"} | {"alloca", "load", "zext", "sext", "trunc", "getelementptr", "ptrtoaddr"}
 MEMORY = "memory"  # the one kind of all values of 64 bits that are read from or written to memory, the lengths of slices among them
 
 
@@ -18,6 +22,17 @@ def functions(text):
     """name: (first line, lines) of each function with a body."""
     found = re.findall(rf"^(define [^\n]*?({NAME})\([^\n]*\{{)\n(.*?)^\}}\n", text, re.M | re.S)
     return {name: (head, body.split("\n")[:-1]) for head, name, body in found}
+
+
+def unchecked(lines):
+    """The lines of a function without the checks that `rt try` adds, the filling of fresh memory among them, and without what is computed for these alone."""
+    lines = [x for x in lines if not ASIDE.search(x)]
+    while True:
+        used = set(re.findall(r"%[\w.]+", "\n".join(re.sub(r"^\s*%\S+ = ", "", x) for x in lines)))
+        kept = [x for x in lines if not ((m := MADE.match(x)) and m[1] and m[2] in PURE and m[1] not in used)]
+        if kept == lines:
+            return lines
+        lines = kept
 
 
 def reached(code, roots):
@@ -134,7 +149,7 @@ def narrowed(kinds, keys, f, line):
 
 
 def board(text, roots):
-    code = functions(text)
+    code = {name: (head, unchecked(lines)) for name, (head, lines) in functions(text).items()}
     missing = [r for r in roots if r not in code]
     assert not missing, f"not in the module: {missing}"
     names = reached(code, roots)
