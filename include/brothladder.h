@@ -88,18 +88,18 @@
  * - It uses the registers xmm0 to xmm15, and no wider or older ones. These use none: sum_join,
  *   sum_pseudo.
  * - These use the red zone of the System V ABI, the 128 bytes below the stack pointer:
- *   read_link_layer_address, read_route, write, write_clearing, write_in_place,
- *   write_in_place_clearing, write_keeping. Where your kernel has no xmm registers or no red zone
- *   in use, link libbrothladder_kernel.a in place of libbrothladder.a: the same calls, compiled
- *   once more without both and without indirect jumps (docs/C.md). Or make the calls where both may
- *   be used: on Linux between kernel_fpu_begin and kernel_fpu_end, and with interrupts on a stack
- *   of their own.
+ *   read_route, write, write_clearing, write_in_place, write_in_place_clearing, write_keeping.
+ *   Where your kernel has no xmm registers or no red zone in use, link libbrothladder_kernel.a in
+ *   place of libbrothladder.a: the same calls, compiled once more without both and without
+ *   indirect jumps (docs/C.md). Or make the calls where both may be used: on Linux between
+ *   kernel_fpu_begin and kernel_fpu_end, and with interrupts on a stack of their own.
  * - It calls nothing through a pointer. Indirect jumps, through tables in .rodata, are in chain,
- *   check_plan, decode, index_append, index_build, plan, plan_message, read_message, read_route,
- *   receive, write, write_clearing, write_in_place, write_in_place_clearing, write_keeping. There
- *   are no endbr64, no notrack and no retpolines: where a kernel enforces indirect branch tracking
- *   these jumps fault, and where it bars indirect jumps outside retpolines these calls are not for
- *   it. With tracking enforced, none is to be called through a pointer.
+ *   check_plan, decode, index_append, index_build, plan, plan_message, read_message, read_mtu,
+ *   read_prefix, receive, write, write_clearing, write_in_place, write_in_place_clearing,
+ *   write_keeping. There are no endbr64, no notrack and no retpolines: where a kernel enforces
+ *   indirect branch tracking these jumps fault, and where it bars indirect jumps outside
+ *   retpolines these calls are not for it. With tracking enforced, none is to be called through a
+ *   pointer.
  * - There is no .eh_frame: nobody can unwind through it, and none of it throws.
  * - Its relocations are R_X86_64_PC32 and R_X86_64_PLT32 alone: code and constants must come to
  *   stand within 2 GiB of each other, at any address, that of -mcmodel=kernel too. It asks for no
