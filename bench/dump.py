@@ -50,7 +50,7 @@ def run(folders, words, source=None):
 
 
 def dump(n):
-    return run([libraries], [root + "/target/bin/dump"], f"{n}.rec")
+    return run([libraries], [root + "/crates/dump/out/dump"], f"{n}.rec")
 
 
 def tcpdump(n):
