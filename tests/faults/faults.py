@@ -138,7 +138,7 @@ def full_disks():
     with open("/dev/full", "wb") as full:
         held("/dev/full, the converter", run([RECORDS, packets], stdout=full), (2, "records: standard output: No space left on device\n", b""))
     for name, program, words in (("dump", "dump", small), ("diff", "diff", " ".join(two()))):
-        script = f". tools/sh/need.sh; built target/bin/{program} {'<' if name == 'dump' else ''}{words} >/dev/full"
+        script = f". tools/sh/need.sh; built crates/{program}/out/{program} {'<' if name == 'dump' else ''}{words} >/dev/full"
         got = run(["bash", "-c", script])
         held(f"/dev/full, the program {name} itself", got[1:], (f"{name}: standard output: No space left on device\n", b""))
     with open("/dev/full", "wb") as full:
