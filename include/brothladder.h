@@ -105,9 +105,10 @@
  *   stand within 2 GiB of each other, at any address, that of -mcmodel=kernel too. It asks for no
  *   symbol.
  *
- * What a call costs: bytes of stack, and instructions. bench/calls measures both and
- * docs/BENCHMARKS.md says of which packets; tools/costs writes this table. Of step it has a walk
- * to END, the loop counted: 4 steps in a packet of 64 bytes and 18 in one of 464.
+ * What a call costs: bytes of stack, and instructions, as an older compiler made them
+ * (docs/BENCHMARKS.md). bench/calls measures both and that page says of which packets;
+ * tools/costs writes this table. Of step it has a walk to END, the loop counted: 4 steps in a
+ * packet of 64 bytes and 18 in one of 464.
  *
  *     call                    stack  instructions
  *     decode                     56  84
