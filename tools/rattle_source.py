@@ -108,7 +108,7 @@ class Item:
     """A function, type or constant of a crate's source."""
     crate: str
     path: str        # from the crate's root: module::Owner::name
-    kind: str        # fn, struct, enum, const, static, type, trait, union
+    kind: str        # fn, struct, enum, const, static, type, trait, union, ghost
     public: bool     # marked `pub` (a function of a private module too: a `pub use` may pass it on)
     file: str
     first: int       # its first and last line, from 0
@@ -136,12 +136,12 @@ CLAUSE = re.compile(r"\b(ghost|requires|ensures)(\s+\w+)?\s*$")
 
 class Source:
     """One source file, read item by item: `code` is its text without comments, `bare` without quoted texts too, `found` its items, `modules` its modules,
-    each with the module whose folder its file lies in (None of a module within this file)."""
+    each with the module whose folder its file lies in (None of a module within this file), `traits` of a type those that it has an `impl` of."""
 
     def __init__(self, crate, file, module):
         self.crate, self.file, self.module = crate, file, module
         self.code, self.bare = rattle_code(read(file)), rattle_code(read(file), texts=False)
-        self.found, self.modules = [], []
+        self.found, self.modules, self.traits = [], [], {}
         self.scan(0, len(self.bare), module, "")
 
     def fail(self, at, why):
@@ -224,6 +224,8 @@ class Source:
         if keyword in ("use", "const", "static", "type"):
             end = self.until(at, ";") + 1
             return end if keyword == "use" else self.add(keyword, path, before, start, end)
+        if keyword == "ghost":
+            return self.ghost(at, start, path, before)
         if keyword in ("struct", "enum", "union", "trait"):
             to = self.until(at, ";{")
             return self.add(keyword, path, before, start, to + 1 if self.bare[to] == ";" else self.close(to))
@@ -239,13 +241,22 @@ class Source:
             head = self.bare[at + 4:to]
             while "<" in head and head != re.sub(r"<[^<>]*>", "", head):
                 head = re.sub(r"<[^<>]*>", "", head)
-            of = re.split(r"\bwhere\b", re.split(r"\bfor\b", head)[-1])[0].strip()
-            self.scan(to + 1, self.close(to) - 1, module, of.split("::")[-1])
+            trait, _, of = re.split(r"\bwhere\b", head)[0].rpartition(" for ")
+            owner = of.strip().split("::")[-1]
+            if trait:
+                self.traits[owner] = self.traits.get(owner, ()) + (trait.strip().split("::")[-1],)
+            self.scan(to + 1, self.close(to) - 1, module, owner)
             return self.close(to)
         if self.bare[at] == "{" and "extern" in before[1]:
             self.scan(at + 1, self.close(at) - 1, module, "")
             return self.close(at)
         return self.fail(at, f"what is this: {self.bare[at:].split(chr(10))[0][:60]}")
+
+    def ghost(self, at, start, path, before):
+        """A ghost member of a trait or of an `impl`: what it says is antt, with antt's comments."""
+        end = self.until(at, ";") + 1
+        self.code = self.code[:at] + antt_code(self.code[at:end]) + self.code[end:]
+        return self.add("ghost", path, before, start, end)
 
     def function(self, at, start, path, before):
         """A function from its `fn` on. A brace behind the word of a clause, and its name, is that clause's; any other opens the body."""
@@ -440,8 +451,14 @@ def modules(crate, kind):
             roots.update({".".join(m): f"{base}/{'/'.join(m)}.antt" for m in below})
             for f in source.found:
                 if f.kind == "fn":
-                    for part in PROOF_FILES:
-                        roots[f.path.replace("::", ".") + "." + part] = f"{base}/{f.path.replace('::', '/')}/{part}.antt"
+                    # the proof of a trait's method stands under the type's name and the trait's, and behind them the trait's arguments
+                    *above, owner, name = ["", *f.path.split("::")]
+                    folder = "/".join([base, *(x for x in above if x)])
+                    beside = sorted(os.listdir(f"{ROOT}/{folder}")) if exists(folder) else []
+                    owners = [owner, *(x for t in source.traits.get(owner, ()) for x in beside if x.startswith(owner + t))]
+                    for at in ("/".join(x for x in (*above, o, name) if x) for o in owners):
+                        for part in PROOF_FILES:
+                            roots[at.replace("/", ".") + "." + part] = f"{base}/{at}/{part}.antt"
         # a cycle of calls stands under the names of its functions, as +even_odd, or under the name that `#[cycle(name)]` gives it
         names = "|".join(re.escape(f.path.split("::")[-1]) for f in functions(crate))
         named = {m for f in sources(crate) for m in re.findall(r"#\[cycle\((\w+)\)\]", read(f))}

@@ -50,18 +50,18 @@ def theorem(name):
     return f"./proofs/Unique.antt:9:1: error: `{name}`: no\n"
 
 
-LOW = part("the low byte written twice", "[(x / 256 % 256) as u8, (x % 256) as u8]", "[(x / 1 % 256) as u8, (x % 256) as u8]")
-LOW_AGAIN = part("the low byte and its neighbour", "(x % 256) as u8]", "(x % 255) as u8]")
-WEIGHT = part("a weight of 1 names no flag", "if weight == 0 {", "if weight < 2 {")
+LOW = part("the low byte written twice", "u16::to_be_bytes(x)", "[u16::to_be_bytes(x)[1], u16::to_be_bytes(x)[1]]")
+WEIGHT_AGAIN = part("a flag of three values", "x / weight % 2 == 1", "x / weight % 3 == 1")
+WEIGHT = part("a weight of 1 names no flag", "weight != 0", "weight > 1")
 OPEN = part("two flags meet the promise", "result ≡ flag_of set weight", "result ≡ result")
 OPEN_WORD = part("two words meet the promise", "result ≡ word16 a b", "result ≡ result")
 DEFINED = part("a definition", "has_flag x w = eqb (x / w % 2) 1", "has_flag x w = eqb 1 1", "specs/Wire.antt")
 # a constant, what names it, and what calls that
-REDIRECT = part("a constant", "TYPE_REDIRECT_MESSAGE: u8 = 137", "TYPE_REDIRECT_MESSAGE: u8 = 138", "src/types.rt")
-ROW = part("the search goes on", "if row.kind == kind {", "if row.kind == 1 {")
-ROW_OPEN = part("a row left open", "result ≡ row_of rows kind", "result ≡ result")
+LONGEST = part("a constant", "MAX_PACKET_LEN: usize = 9000", "MAX_PACKET_LEN: usize = 9001")
+ALLOWED = part("2,048 bytes accepted", "MAX_SHORT_LEN < len &&", "MAX_SHORT_LEN <= len &&")
+ALLOWED_OPEN = part("any length allowed", "result ≡ allows long len", "result ≡ result")
+HEAD = part("the head asked for before the mark", "if left.len() < 2 {", "if left.len() < HEAD_LEN {")
 OPEN_TYPE = part("two types meet the promise", "result ≡ type_number self", "result ≡ result")
-CODE_KNOWN = part("the code behind the last one is known", "code < row.codes", "code <= row.codes")
 EXCHANGED = part("parameters exchanged", "step_at(options: &[u8], offset: usize, at: usize,", "step_at(options: &[u8], at: usize, offset: usize,")
 STEP = part("a step elsewhere", "step_at(w.options, w.offset, w.at,", "step_at(w.options, w.at, w.at,")
 DIGITS = part("digits", "let next = put_decimal(out, at, n / 100);", "let next = put_decimal(out, at, n / 10);")
@@ -78,29 +78,29 @@ EDITS = [
      {WIRE + "tried.edit": edit("file: src/lib.rt", "old: if set { weight } else { 0 }", "new: if set {  weight } else {  0 }")}),
     ("an edit of a text that is not there", "wire/tried: src/lib.rt has 0 times: nothing of the kind",
      {WIRE + "tried.edit": edit("file: src/lib.rt", "old: nothing of the kind", "new: something")}),
-    ("an edit of a text that is there more than once", "wire/tried: src/lib.rt has 3 times: return false;",
-     {WIRE + "tried.edit": edit("file: src/lib.rt", "old: return false;", "new: return true;")}),
+    ("an edit of a text that is there more than once", "wire/tried: src/lib.rt has 2 times: to_be_bytes(x)",
+     {WIRE + "tried.edit": edit("file: src/lib.rt", "old: to_be_bytes(x)", "new: to_le_bytes(x)")}),
     ("an edit without a change", "wire/tried: it has no change", {WIRE + "tried.edit": "# nothing\n"}),
     ("an edit of a `use` line alone", "wire/tried: it changes no function, constant or definition",
      {WIRE + "tried.edit": edit("file: src/lib.rt", "old: Wire.{word16, word32,", "new: Wire.{word32, word16,")}),
-    ("an edit that adds a sum", "message_table/tried: the code's shape is another",
-     {"crates/message_table/must-fail/tried.edit": edit("file: src/lib.rt", "old: code < row.codes", "new: code + 1 < row.codes")}),
+    ("an edit that adds a sum", "capture/tried: the code's shape is another",
+     {"crates/capture/must-fail/tried.edit": edit("file: src/lib.rt", "old: MAX_SHORT_LEN < len &&", "new: MAX_SHORT_LEN + 1 < len &&")}),
     ("a part that changes a comment", "wire/tried: it changes comments and white space alone",
      {WIRE + "tried.edit": LOW + part("a comment", "// The weight of a flag if it is set", "// The weight of a flag if it is not set")}),
     ("a part without a change", "wire/tried: it has no change", {WIRE + "tried.edit": LOW + "# nothing\n"}),
-    ("a sum that one part takes and another adds", "wire/tried: the code's shape is another",
-     {WIRE + "tried.edit": part("a sum", "(b as u16)", "(b as u16) + 0") + part("no sum", "256 * (c as u32) + (d as u32)", "256 * (c as u32)")}),
-    ("two parts that change one function", "wire/tried: u16_to_be may be refused for another part: the low byte written twice",
-     {WIRE + "tried.edit": LOW + LOW_AGAIN}),
+    ("a rest that one part takes and another adds", "wire/tried: the code's shape is another",
+     {WIRE + "tried.edit": part("a rest", "if set { weight }", "if set { weight % 7 }") + part("no rest", "x / weight % 2 == 1", "x / weight == 1")}),
+    ("two parts that change one function", "wire/tried: has_flag may be refused for another part: a weight of 1 names no flag",
+     {WIRE + "tried.edit": WEIGHT + WEIGHT_AGAIN}),
     ("two parts in the same words", "wire/tried: two parts are told by the same words", {WIRE + "tried.edit": LOW + WEIGHT.replace("a weight of 1 names no flag", "the low byte written twice")}),
     ("a function's wrong code and its promise left open", "wire/tried: flag_of may be refused for another part: a flag written",
      {WIRE + "tried.edit": OPEN + part("a flag written", "if set { weight } else { 0 }", "if set { weight } else { 1 }")}),
     ("a promise left open twice", "wire/tried: flag_of changes in two parts: two flags meet the promise",
      {WIRE + "tried.edit": OPEN + part("again", "result ≡ result", "set ≡ set")}),
-    ("wrong code that names a wrong constant", "message_table/tried: row_of may be refused for another part: the search goes on",
-     {"crates/message_table/must-fail/tried.edit": REDIRECT + ROW}),
-    ("wrong code that calls a function whose promise is left open", "message_table/tried: is_known may be refused for another part: the code behind the last one is known",
-     {"crates/message_table/must-fail/tried.edit": ROW_OPEN + CODE_KNOWN}),
+    ("wrong code that names a wrong constant", "capture/tried: allowed may be refused for another part: 2,048 bytes accepted",
+     {"crates/capture/must-fail/tried.edit": LONGEST + ALLOWED}),
+    ("wrong code that calls a function whose promise is left open", "capture/tried: first_record may be refused for another part: the head asked for before the mark",
+     {"crates/capture/must-fail/tried.edit": ALLOWED_OPEN + HEAD}),
     ("wrong code that calls a function whose parameters are exchanged", "ndp_walker/tried: step may be refused for another part: a step elsewhere",
      {"crates/ndp_walker/must-fail/tried.edit": EXCHANGED + STEP}),
     ("a definition beside wrong code", "wire/tried: a definition changes beside other parts, and nothing tells their refusals apart: a definition",
@@ -155,11 +155,11 @@ LOGS = [
     ("wrong code and a promise left open, the code refused", LOW + OPEN, made("u16_to_be"), "the promise of flag_of is not refused by itself"),
     ("wrong code and a promise left open, the promise refused", LOW + OPEN, theorem("flag-of-unique"), "u16_to_be is not refused by itself"),
     ("a definition: nothing tells its refusals apart", DEFINED, "./proofs/Laws.antt:3:1: error: `x`: no proof\n", None),
-    ("a constant, and a function that names it is refused", ("message_table", REDIRECT), own("row_of"), None),
-    ("a constant, and a function that does not name it is refused", ("message_table", REDIRECT), own("is_known"), "types::TYPE_REDIRECT_MESSAGE is not refused by itself"),
+    ("a constant, and a function that names it is refused", ("capture", LONGEST), own("allowed"), None),
+    ("a constant, and a function that does not name it is refused", ("capture", LONGEST), own("first_record"), "MAX_PACKET_LEN is not refused by itself"),
     ("a promise left open, and a function that calls it is refused too", ("icmpv6_type", OPEN_TYPE), theorem("type-u8-unique") + own("Icmpv6Type/kind_u8"), None),
-    ("a constant beside a function that calls its user, each refused", ("message_table", REDIRECT + CODE_KNOWN), own("row_of") + own("is_known"), None),
-    ("a constant beside a function that calls its user, one refused", ("message_table", REDIRECT + CODE_KNOWN), own("is_known"), "types::TYPE_REDIRECT_MESSAGE is not refused"),
+    ("a constant beside a function that calls its user, each refused", ("capture", LONGEST + HEAD), own("allowed") + own("first_record"), None),
+    ("a constant beside a function that calls its user, one refused", ("capture", LONGEST + HEAD), own("first_record"), "MAX_PACKET_LEN is not refused"),
     ("parameters exchanged, and a function that calls it is refused", ("ndp_walker", EXCHANGED), own("step"), None),
     ("parameters exchanged, and a function that does not call it is refused", ("ndp_walker", EXCHANGED), own("rest"), "step_at is not refused by itself"),
     ("a function that calls itself", ("dump_lines", DIGITS), own("+put_decimal"), None),

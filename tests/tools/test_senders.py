@@ -24,13 +24,13 @@ def behind(more):
 
 # what is tried; what tools/senders must say, or None where all is as it must be; the files that are changed
 CASES = [
-    ("a sender by the default", f"{SENDER}: send writes by write_packet, and a sender clears", {SENDER: instead("match write_packet_clearing(", "match write_packet(")}),
-    ("a sender by the default's other name", f"{SENDER}: send writes by write_packet_keeping", {SENDER: instead("match write_packet_clearing(", "match write_packet_keeping(")}),
+    ("a sender by the default", f"{SENDER}: send writes by write_packet, and a sender clears", {SENDER: instead("let written = write_packet_clearing(", "let written = write_packet(")}),
+    ("a sender by the default's other name", f"{SENDER}: send writes by write_packet_keeping", {SENDER: instead("let written = write_packet_clearing(", "let written = write_packet_keeping(")}),
     ("a sender by the default under a name of its own", f"{SENDER}: send writes by write_packet,",
-     {SENDER: lambda text: instead("use writer::{write_packet, ", "use writer::{write_packet, write_packet as put_packet, ")(instead("match write_packet_clearing(", "match put_packet(")(text))}),
+     {SENDER: lambda text: instead("use writer::{write_packet, ", "use writer::{write_packet, write_packet as put_packet, ")(instead("let written = write_packet_clearing(", "let written = put_packet(")(text))}),
     ("a sender whose head is written by the default", f"{SENDER}: is_as_made writes by to_bytes,", {SENDER: instead("header.to_bytes_clearing()", "header.to_bytes()")}),
-    ("a sender that seals what it kept", f"{SENDER}: is_as_made writes by sealed_keeping,", {SENDER: instead("match to_header(icmp_type,", "match icmpv6_checksum::sealed_keeping(icmp_type,")}),
-    ("stored answers compared by the default", f"{STORED}: bytes_told writes by to_bytes,", {STORED: instead("h.to_bytes_clearing()", "h.to_bytes()")}),
+    ("a sender that seals what it kept", f"{SENDER}: is_as_made writes by sealed_keeping,", {SENDER: instead("= to_header(icmp_type,", "= icmpv6_checksum::sealed_keeping(icmp_type,")}),
+    ("stored answers compared by the default", f"{STORED}: header_to_bytes writes by to_bytes,", {STORED: instead("header.to_bytes_clearing()", "header.to_bytes()")}),
     ("the bench's own advertisement by the default", f"{BENCH}: longest writes by brothladder_write,", {BENCH: instead("= brothladder_write_clearing(134", "= brothladder_write(134")}),
     ("the bench's stored frames without the clearing call", f"{BENCH}: sent writes by brothladder_write,",
      {BENCH: instead("CALL(brothladder_write_clearing, bytes,", "CALL(brothladder_write, bytes,")}),
@@ -39,7 +39,7 @@ CASES = [
     ("a crate that is not listed", "crates/dump/src/main.rt writes, and is not listed", {"crates/dump/src/main.rt": behind("\nfn f() { writer::write_packet_clearing(); }\n")}),
     ("a file of a crate whose other file is listed", "crates/replay/src/walk.rt writes, and is not listed", {"crates/replay/src/walk.rt": behind("\nfn f(h: Icmpv6Header) { h.to_bytes(); }\n")}),
     ("a head whose type is not seen", "crates/replay/src/walk.rt writes, and is not listed", {"crates/replay/src/walk.rt": behind("\nfn f() { g().to_bytes(); }\n")}),
-    ("a listed function that tries no other name", f"{SENDER}: is_told_apart is listed, and writes by no other name", {SENDER: instead("match write_packet(full,", "match write_packet_clearing(full,")}),
+    ("a listed function that tries no other name", f"{SENDER}: is_told_apart is listed, and writes by no other name", {SENDER: instead("= write_packet(full,", "= write_packet_clearing(full,")}),
     ("a listed file that writes nothing", "docs/C.md is listed, and writes nothing", {"docs/C.md": lambda text: text.replace("brothladder_write", "brothladder_wrote")}),
     ("a comment", None, {EXAMPLE: behind("/* brothladder_write( */ // brothladder_write(\n"), "crates/dump/src/main.rt": behind("// writer::write_packet()\n")}),
     ("the bytes of another type", None, {"crates/replay/src/walk.rt": behind("\nfn f(h: NdpOptionHeader) { let g = h; g.to_bytes(); }\n")}),

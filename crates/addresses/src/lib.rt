@@ -1,4 +1,4 @@
-// Tests for the kinds of IPv6 addresses (RFC 4291, section 2.4; docs/RULES.md R11). Each looks at what a slice begins with.
+// The addresses of a packet, and tests for the kinds of IPv6 addresses (RFC 4291, section 2.4; docs/RULES.md R11). Each looks at what a slice begins with.
 #![tactic(auto)]
 
 ghost use Rattle.std.specs.Prelude.{◌≡◌, ◌&&◌, ◌/◌, eqb};
@@ -6,22 +6,24 @@ ghost use Rattle.addresses.specs.Address.{same, unspecified, multicast, link_loc
 
 use wire::begins_with;
 
+// The two addresses of an IPv6 packet (RFC 8200, section 3): the pseudo-header has both, so they travel together.
+#[derive(Clone, Copy, Debug, PartialEq, Eq)]
+pub struct Addresses {
+    pub source: [u8; 16],
+    pub destination: [u8; 16],
+}
+
 pub fn is_same(a: &[u8], b: &[u8]) -> bool
     ensures { result ≡ same a.now b.now }
 {
-    if a.len() != b.len() {
-        return false;
-    }
-    begins_with(b, a)
+    // Not by `==` of slices, for the size of the compiled code, as in `begins_with`.
+    a.len() == b.len() && begins_with(b, a)
 }
 
 pub fn is_unspecified(address: &[u8]) -> bool
     ensures { result ≡ unspecified address.now }
 {
-    begins_with(
-        address,
-        b"\x00\x00\x00\x00\x00\x00\x00\x00\x00\x00\x00\x00\x00\x00\x00\x00",
-    )
+    begins_with(address, &[0; 16])
 }
 
 pub fn is_multicast(address: &[u8]) -> bool
@@ -30,30 +32,18 @@ pub fn is_multicast(address: &[u8]) -> bool
     begins_with(address, b"\xff")
 }
 
-// The first two bytes of a link-local address: 254, and the two high bits of the second are 10.
-fn begins_link_local(first: u8, second: u8) -> bool
-    ensures { result ≡ (eqb first 254 && eqb (second / 64) 2) }
-{
-    if first != 254 {
-        return false;
-    }
-    second / 64 == 2
-}
-
+// The first byte is 254, and the two high bits of the second are 10.
 pub fn is_link_local(address: &[u8]) -> bool
     ensures { result ≡ link_local address.now }
 {
-    if address.len() < 2 {
-        return false;
+    match address {
+        [first, second, ..] => *first == 254 && *second / 64 == 2,
+        _ => false,
     }
-    begins_link_local(address[0], address[1])
 }
 
 pub fn is_solicited_node(address: &[u8]) -> bool
     ensures { result ≡ solicited_node address.now }
 {
-    begins_with(
-        address,
-        b"\xff\x02\x00\x00\x00\x00\x00\x00\x00\x00\x00\x01\xff",
-    )
+    begins_with(address, &[0xff, 2, 0, 0, 0, 0, 0, 0, 0, 0, 0, 1, 0xff])
 }

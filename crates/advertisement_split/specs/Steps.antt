@@ -1,6 +1,6 @@
 -- What the private functions answer of a list from a place on.
 -- Assumes nothing.
-use Rattle.std.specs.Prelude.{ℕ, suc, ◌+◌, ◌≤◌, ◌<◌, ◌≡◌, Bool, true, cond, List, length, take, drop}
+use Rattle.std.specs.Prelude.{ℕ, suc, ◌+◌, ◌-◌, ◌≤◌, ◌≡◌, cond, List, length, take, drop, Option, Some, None}
 use Rattle.packet_length.specs.Length.{limit}
 use Rattle.ndp_walk.specs.Walk.{Clean}
 use Rattle.ndp_options.specs.Walk.{walk_from}
@@ -27,12 +27,13 @@ pub record FillsFrom (e : Edition) (s : List ℕ) (from room most to count : ℕ
   pub on : from + count ≤ to
   pub fills : Fills (sizes_from e s from) room most count
 
--- whether a plan is followed; and where message i is then
-pub record Follows (e : Edition) (s : List ℕ) (room : ℕ) (plan : List ℕ) (i : ℕ) (yes : Bool) (from to : ℕ) : Type 0 where
-  pub is : yes ≡ follows own_bytes (own_bytes + room) (sizes_of e s) plan
-  pub inside : (from ≤ to) × (to ≤ length s)
-  pub span : yes ≡ true → i < length plan → (from ≡ start_of (sizes_of e s) plan i) × (to ≡ start_of (sizes_of e s) plan (suc i))
+-- where message i of a plan begins, and how many bytes of options it has; nothing of a plan that is not followed
+abbrev pub followed_of : Edition → List ℕ → ℕ → List ℕ → ℕ → Option (ℕ × ℕ)
+followed_of e s room plan i =
+    cond (follows own_bytes (own_bytes + room) (sizes_of e s) plan)
+    (Some (start_of (sizes_of e s) plan i, start_of (sizes_of e s) plan (suc i) - start_of (sizes_of e s) plan i))
+    None
 
--- how many messages our plan has, 0 where an option is too long for any
-abbrev pub needed_in : ℕ → List ℕ → ℕ
-needed_in room sizes = cond (each_fits own_bytes (own_bytes + room) sizes) (length (plan_of own_bytes (own_bytes + room) sizes)) 0
+-- how many messages our plan has; nothing where an option is too long for any
+abbrev pub messages_in : ℕ → List ℕ → Option ℕ
+messages_in room sizes = cond (each_fits own_bytes (own_bytes + room) sizes) (Some (length (plan_of own_bytes (own_bytes + room) sizes))) None

@@ -1,53 +1,27 @@
 // A long list of options in several advertisements (RFC 4861, section 6.2.3; docs/RULES.md, area Z). A plan says how many consecutive options go into each
-// message. A checker accepts a plan or does not, so that nobody has to trust a planner; ours fills each message in turn.
+// message. A checker accepts a plan or does not, so that nobody has to trust a planner; ours fills each message in turn. A plan is numbers in a
+// lent buffer: C lends it so.
 #![tactic(auto)]
 
-ghost use Rattle.std.specs.Prelude.{◌+◌, ◌*◌, ◌≤◌, ◌<◌, ◌≡◌, true, length, get_or};
+ghost use Rattle.std.specs.Prelude.{◌+◌, ◌*◌, ◌≤◌, ◌<◌, ◌≡◌, true, length, get_or, IfSome};
 ghost use Rattle.output.specs.Output.{written_told, leaves, over};
 ghost use Rattle.split_plan.specs.Plan.{bare, each_fits, plan_of};
 ghost use Rattle.advertisement_split.specs.Split.{sizes_of, own_bytes, check_of, plan_for, place_of, message_of};
 ghost use Rattle.advertisement_split.specs.Told.{checked_told, message_told};
-ghost use Rattle.advertisement_split.specs.Steps.{sizes_from, PlaceOf, FillsFrom, Follows, needed_in};
+ghost use Rattle.advertisement_split.specs.Steps.{sizes_from, PlaceOf, FillsFrom, followed_of, messages_in};
 
 use ndp_option_header::NdpOptionHeader;
-use ndp_option_list::Counted;
 use ndp_options::Edition;
-use output::Written;
 use refusal::Refusal;
-
-// Whether a plan is accepted, or why the walk over the options was refused, with its place.
-#[derive(Clone, Copy)]
-pub enum Checked {
-    Accepted,
-    NotAccepted,
-    Refused(Refusal),
-}
-
-// The options of a message: their place in the list and how many bytes they are; that the plan is not accepted or has no such message; or why the walk was
-// refused, with its place.
-#[derive(Clone, Copy)]
-pub enum Message {
-    At(usize, usize),
-    Nowhere,
-    Refused(Refusal),
-}
 
 // The bytes that an advertisement has before its options: its head and its fixed part.
 const OWN_BYTES: usize = 16;
 
 // A message that was filled: the place behind its options, and how many they are.
-#[derive(Clone, Copy)]
+#[derive(Clone, Copy, Debug, PartialEq, Eq)]
 struct Filled {
     to: usize,
     count: usize,
-}
-
-// Whether a plan was followed, and the places of one of its messages.
-#[derive(Clone, Copy)]
-struct Followed {
-    yes: bool,
-    from: usize,
-    to: usize,
 }
 
 // The length of the option at a place of a whole list, 0 at its end. The walk has judged the options already: what is left to read is the length that each
@@ -59,8 +33,7 @@ fn option_len(options: &[u8], at: usize, edition: Edition) -> usize
     if at == options.len() {
         return 0;
     }
-    let header = NdpOptionHeader::from_bytes([options[at], options[at + 1]]);
-    header.byte_len()
+    NdpOptionHeader::from_bytes([options[at], options[at + 1]]).byte_len()
 }
 
 // As many options from a place on as the room of a message has space for, and so many at most. Options touch, so what they take is the difference of two
@@ -70,8 +43,7 @@ fn fill(options: &[u8], from: usize, room: usize, most: usize, edition: Edition)
     ensures { FillsFrom edition options.now from room most result.to result.count }
 {
     let mut to = from;
-    let mut count: usize = 0;
-    while count < most {
+    for count in 0..most {
         let len = option_len(options, to, edition);
         if len == 0 {
             return Filled { to, count };
@@ -81,71 +53,61 @@ fn fill(options: &[u8], from: usize, room: usize, most: usize, edition: Edition)
             return Filled { to, count };
         }
         to = next;
-        count = count + 1;
     }
-    Filled { to, count }
+    Filled { to, count: most }
 }
 
-// Whether the options go into messages by the plan, each within the room and with an option at least, with none left over; and where message i is.
-fn follow(options: &[u8], room: usize, plan: &[u32], i: usize, edition: Edition) -> Followed
-    requires { PlaceOf edition options.now 0 }
-    ensures { Follows edition options.now room plan.now i result.yes result.from result.to }
+// Where message i is and how long, if the options go into messages by the plan, each within the room and with an option at least, with none left over.
+fn follow(
+    options: &[u8],
+    room: usize,
+    plan: &[u32],
+    i: usize,
+    edition: Edition,
+) -> Option<(usize, usize)>
+    requires { PlaceOf edition options.now 0 × (i < length plan.now) }
+    ensures { result ≡ followed_of edition options.now room plan.now i }
 {
-    let mut from: usize = 0;
-    let mut to: usize = 0;
-    let mut at: usize = 0;
-    let mut j: usize = 0;
-    while j < plan.len() {
-        let n = plan[j] as usize;
+    let mut found = (0, 0);
+    let mut at = 0;
+    for (j, &n) in plan.iter().enumerate() {
+        let n = n as usize;
         if n == 0 {
-            return Followed {
-                yes: false,
-                from,
-                to,
-            };
+            return None;
         }
         let message = fill(options, at, room, n, edition);
         if message.count < n {
-            return Followed {
-                yes: false,
-                from,
-                to,
-            };
+            return None;
         }
         if j == i {
-            from = at;
-            to = message.to;
+            found = (at, message.to - at);
         }
         at = message.to;
-        j = j + 1;
     }
     let left = option_len(options, at, edition);
-    Followed {
-        yes: left == 0,
-        from,
-        to,
-    }
+    if left == 0 { Some(found) } else { None }
 }
 
-// How many messages our plan has, 0 where an option is too long for any. It begins with one message, so no options are no case of their own.
-fn messages(options: &[u8], room: usize, edition: Edition) -> usize
+// How many messages our plan has, if no option is too long for any. It begins with one message, so no options are no case of their own.
+fn messages(options: &[u8], room: usize, edition: Edition) -> Option<usize>
     requires { PlaceOf edition options.now 0 }
-    ensures { (result ≡ needed_in room (sizes_of edition options.now)) × (result ≤ length options.now + 1) }
+    ensures number { result ≡ messages_in room (sizes_of edition options.now) }
+    ensures few { IfSome result (λ n. n ≤ length options.now + 1) }
 {
     let most = options.len();
     let mut at: usize = 0;
     let mut closed: usize = 0;
+    // By places: a message begins where the one before it ends, which `fill` tells.
     loop {
         let message = fill(options, at, room, most, edition);
-        let next = message.to;
-        closed = closed + 1;
-        if option_len(options, next, edition) == 0 {
-            return closed;
+        closed += 1;
+        if option_len(options, message.to, edition) == 0 {
+            return Some(closed);
         }
         if message.count == 0 {
-            return 0;
+            return None;
         }
-        at = next;
+        at = message.to;
     }
 }
 
@@ -159,16 +121,15 @@ fn put_plan(options: &[u8], room: usize, plan: &mut [u32], edition: Edition)
     let most = options.len();
     let mut at: usize = 0;
     let mut closed: usize = 0;
+    // By places, as in `messages`.
     loop {
         let message = fill(options, at, room, most, edition);
-        let count = message.count;
-        let next = message.to;
-        plan[closed] = count as u32;
-        closed = closed + 1;
-        if option_len(options, next, edition) == 0 {
+        plan[closed] = message.count as u32;
+        closed += 1;
+        if option_len(options, message.to, edition) == 0 {
             return;
         }
-        at = next;
+        at = message.to;
     }
 }
 
@@ -176,10 +137,7 @@ fn put_plan(options: &[u8], room: usize, plan: &mut [u32], edition: Edition)
 fn is_bare(plan: &[u32]) -> bool
     ensures { result ≡ bare plan.now }
 {
-    if plan.len() != 1 {
-        return false;
-    }
-    plan[0] == 0
+    matches!(plan, [0])
 }
 
 // Where the options of message i are, if the plan is accepted and has it. A plan, made by whom you like, is accepted if it sends every option once and in
@@ -190,43 +148,30 @@ pub fn message_place(
     plan: &[u32],
     i: usize,
     edition: Edition,
-) -> Message
+) -> Result<Option<(usize, usize)>, Refusal>
     ensures { message_told result ≡ place_of edition limit options.now plan.now i }
 {
-    match ndp_option_list::count(options, 0, edition) {
-        Counted::Refused(why) => Message::Refused(why),
-        Counted::All(count) => {
-            if limit < OWN_BYTES {
-                return Message::Nowhere;
-            }
-            if plan.len() <= i {
-                return Message::Nowhere;
-            }
-            if count == 0 {
-                if is_bare(plan) {
-                    return Message::At(0, 0);
-                }
-                return Message::Nowhere;
-            }
-            let room = limit - OWN_BYTES;
-            let found = follow(options, room, plan, i, edition);
-            if found.yes {
-                return Message::At(found.from, found.to - found.from);
-            }
-            Message::Nowhere
-        }
+    let count = ndp_option_list::count(options, 0, edition)?;
+    if limit < OWN_BYTES || plan.len() <= i {
+        return Ok(None);
     }
+    if count == 0 {
+        return Ok(is_bare(plan).then_some((0, 0)));
+    }
+    let room = limit - OWN_BYTES;
+    Ok(follow(options, room, plan, i, edition))
 }
 
 // Whether a plan is accepted. One that is has a first message.
-pub fn check_plan(options: &[u8], limit: usize, plan: &[u32], edition: Edition) -> Checked
+pub fn check_plan(
+    options: &[u8],
+    limit: usize,
+    plan: &[u32],
+    edition: Edition,
+) -> Result<bool, Refusal>
     ensures { checked_told result ≡ check_of edition limit options.now plan.now }
 {
-    match message_place(options, limit, plan, 0, edition) {
-        Message::At(_, _) => Checked::Accepted,
-        Message::Nowhere => Checked::NotAccepted,
-        Message::Refused(why) => Checked::Refused(why),
-    }
+    Ok(message_place(options, limit, plan, 0, edition)?.is_some())
 }
 
 // The options of message i, as a part of the list: nothing where the plan is not accepted or has no such message.
@@ -240,37 +185,30 @@ pub fn message_options<'a>(
     ensures { result.now ≡ message_of edition limit options.now plan.now i }
 {
     match message_place(options, limit, plan, i, edition) {
-        Message::At(from, len) => {
-            let to = from + len;
-            &options[from..to]
-        }
-        Message::Nowhere => &options[..0],
-        Message::Refused(_) => &options[..0],
+        Ok(Some((from, len))) => &options[from..from + len],
+        Ok(None) | Err(_) => &options[..0],
     }
 }
 
 // Our plan, into numbers that the caller lends: how many messages it has.
-pub fn make_plan(options: &[u8], limit: usize, plan: &mut [u32], edition: Edition) -> Written
+pub fn make_plan(
+    options: &[u8],
+    limit: usize,
+    plan: &mut [u32],
+    edition: Edition,
+) -> Result<usize, Refusal>
     ensures answers { written_told result ≡ plan_for edition limit options.now plan.old }
     ensures lent { plan.new ≡ leaves (plan_for edition limit options.now plan.old) plan.old 0 (plan_of own_bytes limit (sizes_of edition options.now)) }
 {
-    match ndp_option_list::count(options, 0, edition) {
-        Counted::Refused(why) => Written::Refused(why),
-        Counted::All(_) => {
-            if limit < OWN_BYTES {
-                return Written::Refused(Refusal::NoPlan);
-            }
-            let space = limit - OWN_BYTES;
-            let needed = messages(options, space, edition);
-            if needed == 0 {
-                return Written::Refused(Refusal::NoPlan);
-            }
-            if plan.len() < needed {
-                let bytes = needed * 4;
-                return Written::Refused(Refusal::ShortOutput { needed: bytes });
-            }
-            put_plan(options, space, plan, edition);
-            Written::To(needed)
-        }
+    ndp_option_list::count(options, 0, edition)?;
+    if limit < OWN_BYTES {
+        return Err(Refusal::NoPlan);
     }
+    let space = limit - OWN_BYTES;
+    let needed = messages(options, space, edition).ok_or(Refusal::NoPlan)?;
+    if plan.len() < needed {
+        return Err(Refusal::ShortOutput { needed: needed * 4 });
+    }
+    put_plan(options, space, plan, edition);
+    Ok(needed)
 }

@@ -1,6 +1,8 @@
 // The calls for C take numbers and byte buffers and answer one struct of numbers; include/brothladder.h tells a C programmer the same.
 // Here is what came: the first number of every answer. All differ, over all calls, and none is 0, so that no answer reads as false and
-// memory that was cleared is no answer.
+// memory that was cleared is no answer. Every struct begins with the same three numbers, flat, as the header declares them, so each call makes its own; and a
+// call is a crate, so that an archive holds only those that are asked for. An array gets a name before it goes into a struct: straight from a field it gets
+// no proof.
 #![tactic(auto)]
 
 pub const REFUSED: u32 = 1;

@@ -5,7 +5,7 @@ ghost use Rattle.std.specs.Prelude.{◌≡◌};
 ghost use Rattle.ndp_option_read.specs.Rule.{read_told};
 ghost use Rattle.c_bytes.specs.Bytes.{bytes_for};
 
-use ndp_option_read::NdpOptionRead;
+use refusal::Refusal;
 
 #[repr(C)]
 #[derive(Clone, Copy)]
@@ -18,26 +18,30 @@ pub struct Bytes {
     pub place: usize,
 }
 
-// The reader's answer as numbers, of an option of so many bytes, which has its own from a place on.
-pub fn told(read: NdpOptionRead, from: usize, size: usize) -> Bytes
+// The reader's answer as numbers, of an option of so many bytes, which has its own from a place on. A function and no `From`: it
+// takes two numbers more.
+#[tactic(auto, unfolding(crate::specs::Bytes::bytes_for))]
+pub fn told(read: Result<usize, Refusal>, from: usize, size: usize) -> Bytes
     ensures { result ≡ bytes_for from size (read_told read) }
 {
     // Each arm returns: an answer is then written straight to where it goes (docs/BENCHMARKS.md).
     match read {
-        NdpOptionRead::Accepted(place) => return Bytes {
-            answer: c_answer::BYTES,
-            refusal: 0,
-            value: [0, 0, 0, 0, 0],
-            at: from,
-            length: if from < size { size - from } else { 0 },
-            place,
-        },
-        NdpOptionRead::Refused(why) => {
+        Ok(place) => {
+            return Bytes {
+                answer: c_answer::BYTES,
+                refusal: 0,
+                value: [0; 5],
+                at: from,
+                length: size.saturating_sub(from),
+                place,
+            };
+        }
+        Err(why) => {
             let n = why.numbers();
             let value = n.values;
             return Bytes {
                 answer: c_answer::REFUSED,
-                refusal: n.number as u32,
+                refusal: u32::from(n.number),
                 value,
                 at: 0,
                 length: 0,

@@ -12,6 +12,5 @@ pub extern "C" fn brothladder_change_word(packet: &mut [u8], place: usize, word:
     ensures answers { result ≡ updated_for (updated_of packet.old place word) }
     ensures lent { packet.new ≡ left_of packet.old place word }
 {
-    let changed = checksum_update::change_word(packet, place, word);
-    c_updated::told(changed)
+    c_updated::told(checksum_update::change_word(packet, place, word))
 }

@@ -3,13 +3,13 @@
 
 ghost use Rattle.std.specs.Prelude.{◌≡◌, ◌≤◌, length};
 ghost use Rattle.wire.specs.Wire.{bytes32};
-ghost use Rattle.icmpv6.specs.Head.{word_at, decode_of};
+ghost use Rattle.icmpv6.specs.Head.{decode_of};
 ghost use Rattle.c_decode.specs.Head.{fields_for, head_at, head_for};
 
 use icmpv6_headers::icmp_echo_header::IcmpEchoHeader;
 use icmpv6_headers::neighbor_advertisement_header::NeighborAdvertisementHeader;
 use icmpv6_headers::router_advertisement_header::RouterAdvertisementHeader;
-use packet_length::PacketLength;
+use message_table::types;
 
 // Type, code and checksum have the width of their bytes, and are what the writer takes. `bytes5to8` is bytes 4 to 7 as they stand.
 #[repr(C)]
@@ -25,44 +25,31 @@ pub struct Head {
     pub field: [u32; 4],
 }
 
-// Bytes 4 to 7 as one number.
-fn word_of(packet: &[u8]) -> u32
-    requires { 8 ≤ length packet.now }
-    ensures { result ≡ word_at packet.now }
-{
-    wire::u32_from_be(packet[4], packet[5], packet[6], packet[7])
-}
-
 // What a type keeps of bytes 4 to 7. Straight from the number: an Icmpv6Type in between would be made only to be matched again.
 fn fields_of(kind: u8, word: u32) -> [u32; 4]
     ensures { result ≡ fields_for kind (bytes32 word) }
 {
     match kind {
-        2 => [word, 0, 0, 0],
-        4 => [word, 0, 0, 0],
-        128 => {
-            let h = IcmpEchoHeader::from_bytes(wire::u32_to_be(word));
-            [h.id as u32, h.seq as u32, 0, 0]
+        types::TYPE_PACKET_TOO_BIG | types::TYPE_PARAMETER_PROBLEM => [word, 0, 0, 0],
+        types::TYPE_ECHO_REQUEST | types::TYPE_ECHO_REPLY => {
+            let h = IcmpEchoHeader::from_bytes(word.to_be_bytes());
+            [u32::from(h.id), u32::from(h.seq), 0, 0]
         }
-        129 => {
-            let h = IcmpEchoHeader::from_bytes(wire::u32_to_be(word));
-            [h.id as u32, h.seq as u32, 0, 0]
-        }
-        134 => {
-            let h = RouterAdvertisementHeader::from_bytes(wire::u32_to_be(word));
+        types::TYPE_ROUTER_ADVERTISEMENT => {
+            let h = RouterAdvertisementHeader::from_bytes(word.to_be_bytes());
             [
-                h.cur_hop_limit as u32,
-                wire::flag_of(h.managed_address_config, 1) as u32,
-                wire::flag_of(h.other_config, 1) as u32,
-                h.router_lifetime as u32,
+                u32::from(h.cur_hop_limit),
+                u32::from(h.managed_address_config),
+                u32::from(h.other_config),
+                u32::from(h.router_lifetime),
             ]
         }
-        136 => {
-            let h = NeighborAdvertisementHeader::from_bytes(wire::u32_to_be(word));
+        types::TYPE_NEIGHBOR_ADVERTISEMENT => {
+            let h = NeighborAdvertisementHeader::from_bytes(word.to_be_bytes());
             [
-                wire::flag_of(h.router, 1) as u32,
-                wire::flag_of(h.solicited, 1) as u32,
-                wire::flag_of(h.override_flag, 1) as u32,
+                u32::from(h.router),
+                u32::from(h.solicited),
+                u32::from(h.override_flag),
                 0,
             ]
         }
@@ -74,8 +61,8 @@ fn head_of(kind: u8, code: u8, packet: &[u8]) -> Head
     requires { 8 ≤ length packet.now }
     ensures { result ≡ head_at kind code packet.now }
 {
-    let checksum = wire::u16_from_be(packet[2], packet[3]);
-    let word = word_of(packet);
+    let checksum = u16::from_be_bytes([packet[2], packet[3]]);
+    let word = u32::from_be_bytes([packet[4], packet[5], packet[6], packet[7]]);
     if message_table::is_known(kind, code) {
         let field = fields_of(kind, word);
         return Head {
@@ -107,12 +94,12 @@ pub extern "C" fn brothladder_decode(packet: &[u8]) -> Head
 {
     // Each arm returns: an answer is then written straight to where it goes (docs/BENCHMARKS.md).
     match packet_length::check_len(packet.len()) {
-        PacketLength::Refused(why) => {
+        Err(why) => {
             let n = why.numbers();
             let value = n.values;
             return Head {
                 answer: c_answer::REFUSED,
-                refusal: n.number as u32,
+                refusal: u32::from(n.number),
                 value,
                 icmp_type: 0,
                 code: 0,
@@ -121,6 +108,6 @@ pub extern "C" fn brothladder_decode(packet: &[u8]) -> Head
                 field: [0, 0, 0, 0],
             };
         }
-        PacketLength::Fits => return head_of(packet[0], packet[1], packet),
+        Ok(()) => return head_of(packet[0], packet[1], packet),
     }
 }

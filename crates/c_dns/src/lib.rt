@@ -6,8 +6,6 @@ ghost use Rattle.packet_place.specs.Place.{placed};
 ghost use Rattle.recursive_dns_servers.specs.Servers.{servers_of};
 ghost use Rattle.c_dns.specs.Servers.{servers_for};
 
-use recursive_dns_servers::ServersRead;
-
 #[repr(C)]
 #[derive(Clone, Copy)]
 pub struct Servers {
@@ -19,28 +17,29 @@ pub struct Servers {
     pub place: usize,
 }
 
+// The arms stand here and not in a `From`: an answer is then written straight to where it goes (docs/BENCHMARKS.md).
+#[tactic(auto, unfolding(crate::specs::Servers::servers_for))]
 #[unsafe(no_mangle)]
 pub extern "C" fn brothladder_read_dns(option: &[u8], offset: usize) -> Servers
     ensures { result ≡ servers_for (placed offset option.now (servers_of option.now)) }
 {
-    // Each arm returns: an answer is then written straight to where it goes (docs/BENCHMARKS.md).
     match recursive_dns_servers::from_slice(option, offset) {
-        ServersRead::Servers(servers) => {
+        Ok(servers) => {
             return Servers {
                 answer: c_answer::SERVERS,
                 refusal: 0,
-                value: [0, 0, 0, 0, 0],
-                lifetime: servers.lifetime as u64,
+                value: [0; 5],
+                lifetime: u64::from(servers.lifetime),
                 count: servers.count,
                 place: servers.place,
             };
         }
-        ServersRead::Refused(why) => {
+        Err(why) => {
             let n = why.numbers();
             let value = n.values;
             return Servers {
                 answer: c_answer::REFUSED,
-                refusal: n.number as u32,
+                refusal: u32::from(n.number),
                 value,
                 lifetime: 0,
                 count: 0,

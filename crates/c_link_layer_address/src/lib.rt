@@ -9,7 +9,6 @@ ghost use Rattle.c_bytes.specs.Bytes.{bytes_for};
 
 use c_bytes::Bytes;
 use ndp_option::link_layer_address_option::LinkLayerAddressOption;
-use ndp_option_read::NdpOptionRead;
 
 #[unsafe(no_mangle)]
 pub extern "C" fn brothladder_read_link_layer_address(
@@ -22,11 +21,11 @@ pub extern "C" fn brothladder_read_link_layer_address(
     let whose = LinkLayerAddressOption::of(kind);
     // Each arm is told by itself and returns: an answer is then written straight to where it goes (docs/BENCHMARKS.md).
     match whose.from_slice(option, offset) {
-        NdpOptionRead::Accepted(place) => {
-            return c_bytes::told(NdpOptionRead::Accepted(place), 2, option.len());
+        Ok(place) => {
+            return c_bytes::told(Ok(place), 2, option.len());
         }
-        NdpOptionRead::Refused(why) => {
-            return c_bytes::told(NdpOptionRead::Refused(why), 2, option.len());
+        Err(why) => {
+            return c_bytes::told(Err(why), 2, option.len());
         }
     }
 }

@@ -20,26 +20,29 @@ pub struct Mtu {
     pub place: usize,
 }
 
+// The arms stand here and not in a `From`: an answer is then written straight to where it goes (docs/BENCHMARKS.md).
+#[tactic(auto, unfolding(crate::specs::Mtu::mtu_for))]
 #[unsafe(no_mangle)]
 pub extern "C" fn brothladder_read_mtu(option: &[u8], offset: usize) -> Mtu
     ensures { result ≡ mtu_for (placed offset option.now (mtu_of option.now)) }
 {
-    // Each arm returns: an answer is then written straight to where it goes (docs/BENCHMARKS.md).
     match MtuOption::from_slice(option, offset) {
-        MtuOption::Mtu(mtu, place) => return Mtu {
-            answer: c_answer::MTU,
-            refusal: 0,
-            value: [0, 0, 0, 0, 0],
-            kind: 5,
-            mtu,
-            place,
-        },
-        MtuOption::Refused(why) => {
+        Ok(MtuOption { mtu, place }) => {
+            return Mtu {
+                answer: c_answer::MTU,
+                refusal: 0,
+                value: [0; 5],
+                kind: 5,
+                mtu,
+                place,
+            };
+        }
+        Err(why) => {
             let n = why.numbers();
             let value = n.values;
             return Mtu {
                 answer: c_answer::REFUSED,
-                refusal: n.number as u32,
+                refusal: u32::from(n.number),
                 value,
                 kind: 0,
                 mtu: 0,

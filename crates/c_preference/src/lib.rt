@@ -5,7 +5,7 @@ ghost use Rattle.std.specs.Prelude.{◌≡◌};
 ghost use Rattle.icmpv6.specs.Preference.{preference_read};
 ghost use Rattle.c_preference.specs.Preference.{preference_for};
 
-use icmpv6::icmpv6_header::{HeaderRead, Icmpv6Header};
+use icmpv6::icmpv6_header::Icmpv6Header;
 
 // The number is wide, so that the struct has no padding.
 #[repr(C)]
@@ -21,22 +21,22 @@ pub struct Preferred {
 pub extern "C" fn brothladder_preference(packet: &[u8]) -> Preferred
     ensures { result ≡ preference_for (preference_read packet.now) }
 {
+    // Each arm returns: an answer is then written straight to where it goes (docs/BENCHMARKS.md).
     match Icmpv6Header::from_slice(packet) {
-        HeaderRead::Header(header) => {
-            let preferred = header.router_preference();
+        Ok(header) => {
             return Preferred {
                 answer: c_answer::PREFERENCE,
                 refusal: 0,
                 value: [0, 0, 0, 0, 0],
-                preference: preferred.number() as u64,
+                preference: u64::from(header.router_preference().number()),
             };
         }
-        HeaderRead::Refused(why) => {
+        Err(why) => {
             let n = why.numbers();
             let value = n.values;
             return Preferred {
                 answer: c_answer::REFUSED,
-                refusal: n.number as u32,
+                refusal: u32::from(n.number),
                 value,
                 preference: 0,
             };

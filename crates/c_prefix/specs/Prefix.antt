@@ -23,7 +23,7 @@ prefix answer refusal value i place =
       place = place;
     }
 
-unfoldable pub prefix_for : PrefixTold → Prefix
+abbrev pub prefix_for : PrefixTold → Prefix
 prefix_for t =
     cond (eqb t.paper.number 0) (prefix PREFIX 0 none t.information (get_or t.paper.values 0 0))
     (prefix REFUSED t.paper.number (slots t.paper.values) t.information 0)

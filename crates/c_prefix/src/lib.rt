@@ -2,10 +2,9 @@
 #![tactic(auto)]
 
 ghost use Rattle.std.specs.Prelude.{◌≡◌};
-ghost use Rattle.prefix_information.specs.Prefix.{prefix_of};
+ghost use Rattle.prefix_information.specs.Prefix.{prefix_of, no_information};
 ghost use Rattle.c_prefix.specs.Prefix.{prefix, prefix_for};
 
-use ndp_option_read::NdpOptionRead;
 use prefix_information::PrefixInformation;
 
 #[repr(C)]
@@ -37,9 +36,9 @@ fn prefix_of(
         answer,
         refusal,
         value,
-        prefix_length: i.prefix_length as u32,
-        on_link: wire::flag_of(i.on_link, 1) as u16,
-        autonomous: wire::flag_of(i.autonomous_address_configuration, 1) as u16,
+        prefix_length: u32::from(i.prefix_length),
+        on_link: u16::from(i.on_link),
+        autonomous: u16::from(i.autonomous_address_configuration),
         valid_lifetime: i.valid_lifetime,
         preferred_lifetime: i.preferred_lifetime,
         prefix,
@@ -47,22 +46,33 @@ fn prefix_of(
     }
 }
 
+// What an option says that is refused.
+fn nothing() -> PrefixInformation
+    ensures { result ≡ no_information }
+{
+    PrefixInformation {
+        prefix_length: 0,
+        on_link: false,
+        autonomous_address_configuration: false,
+        valid_lifetime: 0,
+        preferred_lifetime: 0,
+        prefix: [0; 16],
+    }
+}
+
 #[unsafe(no_mangle)]
 pub extern "C" fn brothladder_read_prefix(option: &[u8], offset: usize) -> Prefix
     ensures { result ≡ prefix_for (prefix_of offset option.now) }
 {
-    let read = PrefixInformation::from_slice(option, offset);
-    let verdict = read.answer;
-    let information = read.information;
     // Each arm returns: an answer is then written straight to where it goes (docs/BENCHMARKS.md).
-    match verdict {
-        NdpOptionRead::Accepted(place) => {
-            return prefix_of(c_answer::PREFIX, 0, [0, 0, 0, 0, 0], information, place);
+    match PrefixInformation::from_slice(option, offset) {
+        Ok((information, place)) => {
+            return prefix_of(c_answer::PREFIX, 0, [0; 5], information, place);
         }
-        NdpOptionRead::Refused(why) => {
+        Err(why) => {
             let n = why.numbers();
             let value = n.values;
-            return prefix_of(c_answer::REFUSED, n.number as u32, value, information, 0);
+            return prefix_of(c_answer::REFUSED, u32::from(n.number), value, nothing(), 0);
         }
     }
 }

@@ -21,5 +21,5 @@ pub extern "C" fn brothladder_put_link_layer_address(
     ensures lent { out.new ≡ leaves (room_for 8 out.old at) out.old at (link_layer_bytes (link_layer_of kind) address.now) }
 {
     let whose = LinkLayerAddressOption::of(kind);
-    c_written::told(option_writer::put_link_layer_address(whose, *address, out, at))
+    option_writer::put_link_layer_address(whose, *address, out, at).into()
 }

@@ -13,5 +13,5 @@ pub extern "C" fn brothladder_put_mtu(mtu: u32, out: &mut [u8], at: usize) -> Wr
     ensures answers { result ≡ written_for (room_for 8 out.old at) }
     ensures lent { out.new ≡ leaves (room_for 8 out.old at) out.old at (mtu_bytes mtu) }
 {
-    c_written::told(option_writer::put_mtu(mtu, out, at))
+    option_writer::put_mtu(mtu, out, at).into()
 }

@@ -32,5 +32,5 @@ pub extern "C" fn brothladder_put_prefix(
         preferred_lifetime,
         prefix: *prefix,
     };
-    c_written::told(option_writer::put_prefix_information(information, out, at))
+    option_writer::put_prefix_information(information, out, at).into()
 }

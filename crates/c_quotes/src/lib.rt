@@ -8,7 +8,6 @@ ghost use Rattle.quotes.specs.Told.{read_of};
 ghost use Rattle.c_quotes.specs.Columns.{Byte, column, Narrow, chain_with, chain_for};
 
 use ndp_options::Edition;
-use quotes::ChainAnswer;
 
 // Of level i, counted from 0: where its quote begins in the packet, its next header, and the kind of its message. 0 behind the last level.
 #[repr(C)]
@@ -41,6 +40,12 @@ fn column(n: [u32; 25], i: usize) -> [u8; 8]
     ]
 }
 
+// What stands beside a refusal: no level, and 0 for every number.
+const NOTHING: quotes::Chain = quotes::Chain {
+    levels: 0,
+    numbers: [0; 25],
+};
+
 fn chain_of(answer: u32, refusal: u32, value: [u64; 5], c: quotes::Chain) -> Chain
     requires { Narrow c }
     ensures { result ≡ chain_with answer refusal value c }
@@ -62,16 +67,13 @@ fn chain_of(answer: u32, refusal: u32, value: [u64; 5], c: quotes::Chain) -> Cha
 pub extern "C" fn brothladder_chain(packet: &[u8], edition: u32) -> Chain
     ensures { result ≡ chain_for (read_of (edition_of edition) packet.now) }
 {
-    let read = quotes::read_chain(packet, Edition::of(edition));
-    let verdict = read.answer;
-    let chain = read.chain;
     // Each arm returns: an answer is then written straight to where it goes (docs/BENCHMARKS.md).
-    match verdict {
-        ChainAnswer::Whole => return chain_of(c_answer::CHAIN, 0, [0, 0, 0, 0, 0], chain),
-        ChainAnswer::Refused(why) => {
+    match quotes::read_chain(packet, Edition::of(edition)) {
+        Ok(chain) => return chain_of(c_answer::CHAIN, 0, [0; 5], chain),
+        Err(why) => {
             let n = why.numbers();
             let value = n.values;
-            return chain_of(c_answer::REFUSED, n.number as u32, value, chain);
+            return chain_of(c_answer::REFUSED, u32::from(n.number), value, NOTHING);
         }
     }
 }

@@ -6,6 +6,7 @@ ghost use Rattle.ndp_options.specs.Editions.{edition_of};
 ghost use Rattle.receive.specs.Receive.{receive_of};
 ghost use Rattle.c_receive.specs.Received.{received_for};
 
+use addresses::Addresses;
 use ndp_options::Edition;
 use receive::receive_check;
 
@@ -30,23 +31,31 @@ pub extern "C" fn brothladder_receive(
     ensures { result ≡ received_for packet.now (receive_of (edition_of edition) hop_limit source.now destination.now packet.now) }
 {
     // Each arm returns: an answer is then written straight to where it goes (docs/BENCHMARKS.md).
-    match receive_check(packet, hop_limit, source, destination, Edition::of(edition)) {
-        receive::Received::Accepted(message) => {
+    match receive_check(
+        packet,
+        hop_limit,
+        Addresses {
+            source: *source,
+            destination: *destination,
+        },
+        Edition::of(edition),
+    ) {
+        Ok(message) => {
             let at = message.options_at;
             return Received {
                 answer: c_answer::RECEIVED,
                 refusal: 0,
-                value: [0, 0, 0, 0, 0],
+                value: [0; 5],
                 options_at: at,
                 options_length: packet.len() - at,
             };
         }
-        receive::Received::Refused(why) => {
+        Err(why) => {
             let n = why.numbers();
             let value = n.values;
             return Received {
                 answer: c_answer::REFUSED,
-                refusal: n.number as u32,
+                refusal: u32::from(n.number),
                 value,
                 options_at: 0,
                 options_length: 0,

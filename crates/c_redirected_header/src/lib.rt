@@ -8,7 +8,6 @@ ghost use Rattle.c_bytes.specs.Bytes.{bytes_for};
 
 use c_bytes::Bytes;
 use ndp_option::redirected_header_option;
-use ndp_option_read::NdpOptionRead;
 
 #[unsafe(no_mangle)]
 pub extern "C" fn brothladder_read_redirected_header(option: &[u8], offset: usize) -> Bytes
@@ -16,11 +15,11 @@ pub extern "C" fn brothladder_read_redirected_header(option: &[u8], offset: usiz
 {
     // Each arm is told by itself and returns: an answer is then written straight to where it goes (docs/BENCHMARKS.md).
     match redirected_header_option::from_slice(option, offset) {
-        NdpOptionRead::Accepted(place) => {
-            return c_bytes::told(NdpOptionRead::Accepted(place), 8, option.len());
+        Ok(place) => {
+            return c_bytes::told(Ok(place), 8, option.len());
         }
-        NdpOptionRead::Refused(why) => {
-            return c_bytes::told(NdpOptionRead::Refused(why), 8, option.len());
+        Err(why) => {
+            return c_bytes::told(Err(why), 8, option.len());
         }
     }
 }

@@ -21,7 +21,7 @@ route answer refusal value i place =
       place = place;
     }
 
-unfoldable pub route_for : RouteTold → Route
+abbrev pub route_for : RouteTold → Route
 route_for t =
     cond (eqb t.paper.number 0) (route (cond (is_route t.paper) ROUTE IGNORED) 0 none t.information (get_or t.paper.values 1 0))
     (route REFUSED t.paper.number (slots t.paper.values) t.information 0)

@@ -2,10 +2,11 @@
 #![tactic(auto)]
 
 ghost use Rattle.std.specs.Prelude.{◌≡◌};
-ghost use Rattle.route_information.specs.Route.{route_of};
+ghost use Rattle.route_information.specs.Route.{route_of, no_information};
 ghost use Rattle.c_route.specs.Route.{route, route_for};
 
 use route_information::{RouteAnswer, RouteInformation};
+use router_preference::RouterPreference;
 
 #[repr(C)]
 #[derive(Clone, Copy)]
@@ -23,17 +24,28 @@ pub struct Route {
 fn route_of(answer: u32, refusal: u32, value: [u64; 5], i: RouteInformation, place: usize) -> Route
     ensures { result ≡ route answer refusal value i place }
 {
-    let preferred = i.preference;
     let prefix = i.prefix;
     Route {
         answer,
         refusal,
         value,
-        prefix_length: i.prefix_length as u16,
-        preference: preferred.number() as u16,
+        prefix_length: u16::from(i.prefix_length),
+        preference: u16::from(i.preference.number()),
         lifetime: i.lifetime,
         prefix,
         place,
+    }
+}
+
+// What a route says that is ignored or refused.
+fn nothing() -> RouteInformation
+    ensures { result ≡ no_information }
+{
+    RouteInformation {
+        prefix_length: 0,
+        preference: RouterPreference::Medium,
+        lifetime: 0,
+        prefix: [0; 16],
     }
 }
 
@@ -41,21 +53,18 @@ fn route_of(answer: u32, refusal: u32, value: [u64; 5], i: RouteInformation, pla
 pub extern "C" fn brothladder_read_route(option: &[u8], offset: usize) -> Route
     ensures { result ≡ route_for (route_of offset option.now) }
 {
-    let read = route_information::from_slice(option, offset);
-    let verdict = read.answer;
-    let information = read.information;
     // Each arm returns: an answer is then written straight to where it goes (docs/BENCHMARKS.md).
-    match verdict {
-        RouteAnswer::Route(place) => {
-            return route_of(c_answer::ROUTE, 0, [0, 0, 0, 0, 0], information, place);
+    match route_information::from_slice(option, offset) {
+        Ok(RouteAnswer::Route(information, place)) => {
+            return route_of(c_answer::ROUTE, 0, [0; 5], information, place);
         }
-        RouteAnswer::Ignored(place) => {
-            return route_of(c_answer::IGNORED, 0, [0, 0, 0, 0, 0], information, place);
+        Ok(RouteAnswer::Ignored(place)) => {
+            return route_of(c_answer::IGNORED, 0, [0; 5], nothing(), place);
         }
-        RouteAnswer::Refused(why) => {
+        Err(why) => {
             let n = why.numbers();
             let value = n.values;
-            return route_of(c_answer::REFUSED, n.number as u32, value, information, 0);
+            return route_of(c_answer::REFUSED, u32::from(n.number), value, nothing(), 0);
         }
     }
 }

@@ -12,10 +12,14 @@ use Rattle.c_split.specs.declared.Part.{Part}
 abbrev pub checked : ℕ → ℕ → List ℕ → Checked
 checked answer refusal value = record { answer = answer; refusal = refusal; value = value }
 
+-- a refusal's number and its values
+abbrev pub refused_for : Paper → Checked
+refused_for p = checked REFUSED p.number (slots p.values)
+
 unfoldable pub checked_for : Paper → Checked
 checked_for p =
     cond (eqb p.number 0) (checked (cond (eqb (value 0 p) 1) ACCEPTED NOT_ACCEPTED) 0 none)
-    (checked REFUSED p.number (slots p.values))
+    (refused_for p)
 
 abbrev pub planned : ℕ → ℕ → List ℕ → ℕ → Planned
 planned answer refusal value messages = record { answer = answer; refusal = refusal; value = value; messages = messages }

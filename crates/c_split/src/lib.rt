@@ -9,9 +9,8 @@ ghost use Rattle.split_plan.specs.Plan.{plan_of};
 ghost use Rattle.advertisement_split.specs.Split.{sizes_of, own_bytes, check_of, plan_for, place_of};
 ghost use Rattle.c_split.specs.Split.{checked_for, planned_for, part_for};
 
-use advertisement_split::Message;
 use ndp_options::Edition;
-use output::Written;
+use refusal::Refusal;
 
 #[repr(C)]
 #[derive(Clone, Copy)]
@@ -41,6 +40,107 @@ pub struct Part {
     pub length: usize,
 }
 
+impl Checked {
+    ghost use Rattle.std.specs.Prelude.{◌≡◌};
+    ghost use Rattle.refusal.specs.Paper.{refusal};
+    ghost use Rattle.c_answer.specs.Answer.{none};
+    ghost use Rattle.c_split.specs.Split.{checked, refused_for};
+
+    // What came, and no refusal beside it.
+    #[inline(always)]
+    fn given(answer: u32) -> Checked
+        ensures { result ≡ checked answer 0 none }
+    {
+        Checked {
+            answer,
+            refusal: 0,
+            value: [0; 5],
+        }
+    }
+
+    // The refusal: its number and its values.
+    #[inline(always)]
+    fn refused(why: Refusal) -> Checked
+        ensures { result ≡ refused_for (refusal why) }
+    {
+        let n = why.numbers();
+        let value = n.values;
+        Checked {
+            answer: c_answer::REFUSED,
+            refusal: u32::from(n.number),
+            value,
+        }
+    }
+}
+
+impl From<Result<bool, Refusal>> for Checked {
+    ghost use Rattle.std.specs.Prelude.{◌≡◌};
+    ghost use Rattle.advertisement_split.specs.Told.{checked_told};
+    ghost use Rattle.c_split.specs.Split.{checked_for};
+
+    ghost from_gives = { λ answer x. x ≡ checked_for (checked_told answer) };
+
+    #[inline(always)]
+    #[tactic(auto, unfolding(crate::specs::Split::checked_for))]
+    fn from(answer: Result<bool, Refusal>) -> Checked {
+        match answer {
+            Ok(true) => Checked::given(c_answer::ACCEPTED),
+            Ok(false) => Checked::given(c_answer::NOT_ACCEPTED),
+            Err(why) => Checked::refused(why),
+        }
+    }
+}
+
+impl From<Result<usize, Refusal>> for Planned {
+    ghost use Rattle.std.specs.Prelude.{◌≡◌};
+    ghost use Rattle.output.specs.Output.{written_told};
+    ghost use Rattle.c_split.specs.Split.{planned_for};
+
+    ghost from_gives = { λ answer x. x ≡ planned_for (written_told answer) };
+
+    #[inline(always)]
+    #[tactic(auto, unfolding(crate::specs::Split::planned_for))]
+    fn from(answer: Result<usize, Refusal>) -> Planned {
+        let (came, messages) = match answer {
+            Ok(n) => (Checked::given(c_answer::PLANNED), n),
+            Err(why) => (Checked::refused(why), 0),
+        };
+        let value = came.value;
+        Planned {
+            answer: came.answer,
+            refusal: came.refusal,
+            value,
+            messages,
+        }
+    }
+}
+
+impl From<Result<Option<(usize, usize)>, Refusal>> for Part {
+    ghost use Rattle.std.specs.Prelude.{◌≡◌};
+    ghost use Rattle.advertisement_split.specs.Told.{message_told};
+    ghost use Rattle.c_split.specs.Split.{part_for};
+
+    ghost from_gives = { λ answer x. x ≡ part_for (message_told answer) };
+
+    #[inline(always)]
+    #[tactic(auto, unfolding(crate::specs::Split::part_for))]
+    fn from(answer: Result<Option<(usize, usize)>, Refusal>) -> Part {
+        let (came, at, length) = match answer {
+            Ok(Some((at, length))) => (Checked::given(c_answer::ACCEPTED), at, length),
+            Ok(None) => (Checked::given(c_answer::NOT_ACCEPTED), 0, 0),
+            Err(why) => (Checked::refused(why), 0, 0),
+        };
+        let value = came.value;
+        Part {
+            answer: came.answer,
+            refusal: came.refusal,
+            value,
+            at,
+            length,
+        }
+    }
+}
+
 #[unsafe(no_mangle)]
 pub extern "C" fn brothladder_check_plan(
     options: &[u8],
@@ -50,28 +150,7 @@ pub extern "C" fn brothladder_check_plan(
 ) -> Checked
     ensures { result ≡ checked_for (check_of (edition_of edition) limit options.now plan.now) }
 {
-    // Each arm returns: an answer is then written straight to where it goes (docs/BENCHMARKS.md).
-    match advertisement_split::check_plan(options, limit, plan, Edition::of(edition)) {
-        advertisement_split::Checked::Accepted => return Checked {
-            answer: c_answer::ACCEPTED,
-            refusal: 0,
-            value: [0, 0, 0, 0, 0],
-        },
-        advertisement_split::Checked::NotAccepted => return Checked {
-            answer: c_answer::NOT_ACCEPTED,
-            refusal: 0,
-            value: [0, 0, 0, 0, 0],
-        },
-        advertisement_split::Checked::Refused(why) => {
-            let n = why.numbers();
-            let value = n.values;
-            return Checked {
-                answer: c_answer::REFUSED,
-                refusal: n.number as u32,
-                value,
-            };
-        }
-    }
+    advertisement_split::check_plan(options, limit, plan, Edition::of(edition)).into()
 }
 
 #[unsafe(no_mangle)]
@@ -84,24 +163,7 @@ pub extern "C" fn brothladder_plan(
     ensures answers { result ≡ planned_for (plan_for (edition_of edition) limit options.now plan.old) }
     ensures lent { plan.new ≡ leaves (plan_for (edition_of edition) limit options.now plan.old) plan.old 0 (plan_of own_bytes limit (sizes_of (edition_of edition) options.now)) }
 {
-    match advertisement_split::make_plan(options, limit, plan, Edition::of(edition)) {
-        Written::To(messages) => return Planned {
-            answer: c_answer::PLANNED,
-            refusal: 0,
-            value: [0, 0, 0, 0, 0],
-            messages,
-        },
-        Written::Refused(why) => {
-            let n = why.numbers();
-            let value = n.values;
-            return Planned {
-                answer: c_answer::REFUSED,
-                refusal: n.number as u32,
-                value,
-                messages: 0,
-            };
-        }
-    }
+    advertisement_split::make_plan(options, limit, plan, Edition::of(edition)).into()
 }
 
 #[unsafe(no_mangle)]
@@ -114,31 +176,5 @@ pub extern "C" fn brothladder_plan_message(
 ) -> Part
     ensures { result ≡ part_for (place_of (edition_of edition) limit options.now plan.now i) }
 {
-    match advertisement_split::message_place(options, limit, plan, i, Edition::of(edition)) {
-        Message::At(at, length) => return Part {
-            answer: c_answer::ACCEPTED,
-            refusal: 0,
-            value: [0, 0, 0, 0, 0],
-            at,
-            length,
-        },
-        Message::Nowhere => return Part {
-            answer: c_answer::NOT_ACCEPTED,
-            refusal: 0,
-            value: [0, 0, 0, 0, 0],
-            at: 0,
-            length: 0,
-        },
-        Message::Refused(why) => {
-            let n = why.numbers();
-            let value = n.values;
-            return Part {
-                answer: c_answer::REFUSED,
-                refusal: n.number as u32,
-                value,
-                at: 0,
-                length: 0,
-            };
-        }
-    }
+    advertisement_split::message_place(options, limit, plan, i, Edition::of(edition)).into()
 }

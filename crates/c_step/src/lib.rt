@@ -25,6 +25,7 @@ pub struct Stepped {
     pub place: usize,
 }
 
+// By a match: these are the numbers of the interface for C, and the library gives its kinds none.
 fn kind_number(kind: NdpOptionKind) -> u32
     ensures { result ≡ option_kind_number kind }
 {
@@ -57,6 +58,7 @@ fn bare(answer: u32, refusal: u32, value: [u64; 5], next: usize) -> Stepped
     }
 }
 
+#[tactic(auto, unfolding(crate::specs::Stepped::stepped_for))]
 #[unsafe(no_mangle)]
 pub extern "C" fn brothladder_step(
     options: &[u8],
@@ -70,26 +72,24 @@ pub extern "C" fn brothladder_step(
     // Each arm returns: an answer is then written straight to where it goes (docs/BENCHMARKS.md).
     match c.step(options, offset, Edition::of(edition)) {
         Step::Handed(option, next) => {
-            let kind = option.kind;
-            let id = option.option_type;
             return Stepped {
                 answer: c_answer::OPTION,
                 refusal: 0,
-                value: [0, 0, 0, 0, 0],
-                kind: kind_number(kind),
-                option_type: id.0 as u32,
+                value: [0; 5],
+                kind: kind_number(option.kind),
+                option_type: u32::from(option.option_type.0),
                 at: option.at,
                 length: option.len,
                 next: next.at,
                 place: option.place,
             };
         }
-        Step::End => return bare(c_answer::END, 0, [0, 0, 0, 0, 0], at),
+        Step::End => return bare(c_answer::END, 0, [0; 5], at),
         Step::Refused(why, next) => {
             let n = why.numbers();
             let value = n.values;
-            return bare(c_answer::REFUSED, n.number as u32, value, next.at);
+            return bare(c_answer::REFUSED, u32::from(n.number), value, next.at);
         }
-        Step::Stopped => return bare(c_answer::STOPPED, 0, [0, 0, 0, 0, 0], at),
+        Step::Stopped => return bare(c_answer::STOPPED, 0, [0; 5], at),
     }
 }

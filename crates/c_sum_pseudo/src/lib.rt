@@ -5,6 +5,7 @@ ghost use Rattle.std.specs.Prelude.{◌≡◌};
 ghost use Rattle.running_sum.specs.Parts.{over_pseudo};
 ghost use Rattle.c_summed.specs.Summed.{summed_for};
 
+use addresses::Addresses;
 use c_summed::Summed;
 use running_sum::RunningSum;
 
@@ -17,7 +18,13 @@ pub extern "C" fn brothladder_sum_pseudo(
     ensures { result ≡ summed_for (over_pseudo source.now destination.now length) }
 {
     c_summed::told(RunningSum {
-        sum: running_sum::pseudo(source, destination, length),
+        sum: running_sum::pseudo(
+            Addresses {
+                source: *source,
+                destination: *destination,
+            },
+            length,
+        ),
         odd: false,
     })
 }

@@ -6,8 +6,8 @@ use Rattle.running_sum.specs.declared.RunningSum.{RunningSum}
 use Rattle.c_answer.specs.Answer.{SUM}
 use Rattle.c_summed.specs.declared.Summed.{Summed}
 
-unfoldable pub summed_for : RunningSum → Summed
+abbrev pub summed_for : RunningSum → Summed
 summed_for r = record { answer = SUM; sum = r.sum; odd = one_if r.odd }
 
-unfoldable pub running_of : Summed → RunningSum
+abbrev pub running_of : Summed → RunningSum
 running_of s = record { sum = s.sum; odd = is_odd s.odd }

@@ -14,10 +14,11 @@ pub struct Summed {
     pub odd: u16,
 }
 
+// A function and no `From`: docs/PROMISES.md names it, and the next.
 pub fn told(r: RunningSum) -> Summed
     ensures { result ≡ summed_for r }
 {
-    let odd = r.odd as u16;
+    let odd = u16::from(r.odd);
     Summed {
         answer: c_answer::SUM,
         sum: r.value(),

@@ -9,7 +9,7 @@ use Rattle.c_updated.specs.declared.Updated.{Updated}
 abbrev pub updated : ℕ → ℕ → List ℕ → ℕ → Updated
 updated answer refusal value field = record { answer = answer; refusal = refusal; value = value; field = field }
 
-unfoldable pub updated_for : Paper → Updated
+abbrev pub updated_for : Paper → Updated
 updated_for p =
     cond (eqb p.number 0) (updated UPDATED 0 none (get_or p.values 0 0))
     (updated REFUSED p.number (slots p.values) 0)

@@ -5,6 +5,8 @@ ghost use Rattle.std.specs.Prelude.{◌≡◌};
 ghost use Rattle.checksum_update.specs.Told.{updated_told};
 ghost use Rattle.c_updated.specs.Updated.{updated_for};
 
+use refusal::Refusal;
+
 #[repr(C)]
 #[derive(Clone, Copy)]
 pub struct Updated {
@@ -14,23 +16,25 @@ pub struct Updated {
     pub field: u64,
 }
 
-pub fn told(answer: checksum_update::Updated) -> Updated
+// A function and no `From`: docs/PROMISES.md names it.
+#[inline(always)]
+pub fn told(answer: Result<u16, Refusal>) -> Updated
     ensures { result ≡ updated_for (updated_told answer) }
 {
     // Each arm returns: an answer is then written straight to where it goes (docs/BENCHMARKS.md).
     match answer {
-        checksum_update::Updated::Field(field) => return Updated {
+        Ok(field) => return Updated {
             answer: c_answer::UPDATED,
             refusal: 0,
-            value: [0, 0, 0, 0, 0],
-            field: field as u64,
+            value: [0; 5],
+            field: u64::from(field),
         },
-        checksum_update::Updated::Refused(why) => {
+        Err(why) => {
             let n = why.numbers();
             let value = n.values;
             return Updated {
                 answer: c_answer::REFUSED,
-                refusal: n.number as u32,
+                refusal: u32::from(n.number),
                 value,
                 field: 0,
             };

@@ -13,11 +13,11 @@ pub extern "C" fn brothladder_updated_checksum(packet: &[u8], place: usize, word
 {
     // Each arm is told by itself and returns: an answer is then written straight to where it goes (docs/BENCHMARKS.md).
     match checksum_update::updated_checksum(packet, place, word) {
-        checksum_update::Updated::Field(field) => {
-            return c_updated::told(checksum_update::Updated::Field(field));
+        Ok(field) => {
+            return c_updated::told(Ok(field));
         }
-        checksum_update::Updated::Refused(why) => {
-            return c_updated::told(checksum_update::Updated::Refused(why));
+        Err(why) => {
+            return c_updated::told(Err(why));
         }
     }
 }

@@ -7,6 +7,7 @@ ghost use Rattle.ndp_options.specs.Editions.{edition_of};
 ghost use Rattle.writer.specs.Write.{write_of, output_by};
 ghost use Rattle.c_written.specs.Written.{value_of_word, header_of_word, written_for};
 
+use addresses::Addresses;
 use c_written::Written;
 use ndp_options::Edition;
 use writer::write_packet;
@@ -26,13 +27,15 @@ pub extern "C" fn brothladder_write(
     ensures lent { out.new ≡ output_by (edition_of edition) by_default (header_of_word type_u8 code_u8 bytes5to8) source.now destination.now payload.now out.old }
 {
     let header = c_written::header_of(type_u8, code_u8, bytes5to8);
-    let written = write_packet(
+    write_packet(
         header,
-        source,
-        destination,
+        Addresses {
+            source: *source,
+            destination: *destination,
+        },
         payload,
         out,
         Edition::of(edition),
-    );
-    c_written::told(written)
+    )
+    .into()
 }

@@ -2,11 +2,11 @@
 #![tactic(auto)]
 
 ghost use Rattle.std.specs.Prelude.{◌≡◌};
-ghost use Rattle.output.specs.Output.{written_told};
-ghost use Rattle.c_written.specs.Written.{header_of_word, written_for};
+ghost use Rattle.c_written.specs.Written.{header_of_word};
 
 use icmpv6::icmpv6_header::Icmpv6Header;
 use icmpv6_type::Icmpv6Type;
+use refusal::Refusal;
 
 #[repr(C)]
 #[derive(Clone, Copy)]
@@ -22,33 +22,41 @@ pub fn header_of(type_u8: u8, code_u8: u8, bytes5to8: u32) -> Icmpv6Header
     ensures { result ≡ header_of_word type_u8 code_u8 bytes5to8 }
 {
     Icmpv6Header {
-        icmp_type: Icmpv6Type::from_parts(type_u8, code_u8, wire::u32_to_be(bytes5to8)),
+        icmp_type: Icmpv6Type::from_parts(type_u8, code_u8, bytes5to8.to_be_bytes()),
         checksum: 0,
         bytes5to8,
     }
 }
 
 // The writer's answer as numbers.
-pub fn told(answer: output::Written) -> Written
-    ensures { result ≡ written_for (written_told answer) }
-{
-    // Each arm returns: an answer is then written straight to where it goes (docs/BENCHMARKS.md).
-    match answer {
-        output::Written::To(length) => return Written {
-            answer: c_answer::WRITTEN,
-            refusal: 0,
-            value: [0, 0, 0, 0, 0],
-            length,
-        },
-        output::Written::Refused(why) => {
-            let n = why.numbers();
-            let value = n.values;
-            return Written {
-                answer: c_answer::REFUSED,
-                refusal: n.number as u32,
-                value,
-                length: 0,
-            };
+impl From<Result<usize, Refusal>> for Written {
+    ghost use Rattle.std.specs.Prelude.{◌≡◌};
+    ghost use Rattle.output.specs.Output.{written_told};
+    ghost use Rattle.c_written.specs.Written.{written_for};
+
+    ghost from_gives = { λ answer x. x ≡ written_for (written_told answer) };
+
+    #[inline(always)]
+    #[tactic(auto, using(crate::proofs::Numbered::numbered), unfolding(crate::specs::Written::written_for))]
+    fn from(answer: Result<usize, Refusal>) -> Written {
+        // Each arm returns: an answer is then written straight to where it goes (docs/BENCHMARKS.md).
+        match answer {
+            Ok(length) => return Written {
+                answer: c_answer::WRITTEN,
+                refusal: 0,
+                value: [0; 5],
+                length,
+            },
+            Err(why) => {
+                let n = why.numbers();
+                let value = n.values;
+                return Written {
+                    answer: c_answer::REFUSED,
+                    refusal: u32::from(n.number),
+                    value,
+                    length: 0,
+                };
+            }
         }
     }
 }

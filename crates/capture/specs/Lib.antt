@@ -4,3 +4,4 @@ pub mod Capture
 pub mod Cases
 pub mod Before
 pub mod Longer
+pub mod Records

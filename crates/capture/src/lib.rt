@@ -19,7 +19,7 @@ pub const MAX_SHORT_LEN: usize = 2048;
 pub const MAX_RECORD_LEN: usize = HEAD_LEN + MAX_PACKET_LEN;
 
 // Where the parts of a record stand in the capture; `next` is the place after its last byte.
-#[derive(Clone, Copy)]
+#[derive(Clone, Copy, Debug, PartialEq, Eq)]
 pub struct Record {
     pub hop_limit: u8,
     pub source: usize,
@@ -29,59 +29,52 @@ pub struct Record {
     pub next: usize,
 }
 
-#[derive(Clone, Copy)]
-pub enum Next {
-    Found(Record),
-    End,
-    Refused(Refusal),
-}
-
 // The record at a place of `capture`, whose own first byte is `base` bytes from the start of the whole capture.
 // A place beyond the bytes is refused like a record that is cut off: it is not the end of the capture.
 #[tactic(auto, unfolding(crate::specs::Record::next_of))]
-pub fn next_record(capture: &[u8], at: usize, base: u64) -> Next
+pub fn next_record(capture: &[u8], at: usize, base: u64) -> Result<Option<Record>, Refusal>
     ensures { next_paper result ≡ next_of capture.now at base }
 {
-    let place = std::num::wrapping_add_u64(base, at as u64);
+    let place = base.wrapping_add(at as u64);
     if capture.len() < at {
-        return Next::Refused(Refusal::CaptureEnds { place });
+        return Err(Refusal::CaptureEnds { place });
     }
     first_record(&capture[at..], at, place)
 }
 
 // The record that `left` begins with.
 #[tactic(auto, unfolding(crate::specs::Record::allowed, crate::specs::Record::record_of))]
-fn first_record(left: &[u8], at: usize, place: u64) -> Next
+fn first_record(left: &[u8], at: usize, place: u64) -> Result<Option<Record>, Refusal>
     requires { at + length left.now < 18446744073709551616 }
     ensures { next_paper result ≡ record_placed at (record_of left.now place) }
 {
-    if left.len() == 0 {
-        return Next::End;
+    if left.is_empty() {
+        return Ok(None);
     }
     if left.len() < 2 {
-        return Next::Refused(Refusal::CaptureEnds { place });
+        return Err(Refusal::CaptureEnds { place });
     }
     if !marked(left) {
-        return Next::Refused(Refusal::NoMark { place });
+        return Err(Refusal::NoMark { place });
     }
     if left.len() < HEAD_LEN {
-        return Next::Refused(Refusal::CaptureEnds { place });
+        return Err(Refusal::CaptureEnds { place });
     }
-    let len = wire::u16_from_be(left[35], left[36]) as usize;
+    let len = usize::from(u16::from_be_bytes([left[35], left[36]]));
     if !allowed(wire::begins_with(left, b"I7"), len) {
-        return Next::Refused(Refusal::LongRecord { length: len });
+        return Err(Refusal::LongRecord { length: len });
     }
     if left.len() - HEAD_LEN < len {
-        return Next::Refused(Refusal::CaptureEnds { place });
+        return Err(Refusal::CaptureEnds { place });
     }
-    Next::Found(Record {
+    Ok(Some(Record {
         hop_limit: left[2],
         source: at + 3,
         destination: at + 19,
         packet: at + HEAD_LEN,
         len,
         next: at + HEAD_LEN + len,
-    })
+    }))
 }
 
 // Whether bytes begin with one of the marks.
@@ -89,37 +82,26 @@ fn first_record(left: &[u8], at: usize, place: u64) -> Next
 fn marked(left: &[u8]) -> bool
     ensures { result ≡ record_marked left.now }
 {
-    if wire::begins_with(left, b"I6") {
-        return true;
-    }
-    wire::begins_with(left, b"I7")
+    wire::begins_with(left, b"I6") || wire::begins_with(left, b"I7")
 }
 
 // Whether a mark allows a packet's length: each record has one form.
 fn allowed(long: bool, len: usize) -> bool
     ensures { result ≡ allows long len }
 {
-    if !long {
-        return len <= MAX_SHORT_LEN;
+    if long {
+        MAX_SHORT_LEN < len && len <= MAX_PACKET_LEN
+    } else {
+        len <= MAX_SHORT_LEN
     }
-    if len <= MAX_SHORT_LEN {
-        return false;
-    }
-    len <= MAX_PACKET_LEN
 }
 
 // The bytes from a place on, `len` of them or as many as there are. Use it to get an address or the packet of a record.
 pub fn part<'a>(capture: &'a [u8], at: usize, len: usize) -> &'a [u8]
     ensures { result.now ≡ take len (drop at capture.now) }
 {
-    if capture.len() <= at {
-        return &capture[..0];
-    }
-    if capture.len() - at < len {
-        return &capture[at..];
-    }
-    let end = at + len;
-    &capture[at..end]
+    let left = capture.get(at..).unwrap_or(&[]);
+    left.get(..len).unwrap_or(left)
 }
 
 // The address at a place: its 16 bytes, 0 in place of those that are not there.
@@ -127,6 +109,31 @@ pub fn address(capture: &[u8], at: usize) -> [u8; 16]
     ensures { result ≡ address_at capture.now at }
 {
     let mut address = [0u8; 16];
-    output::put(&mut address, 0, part(capture, at, 16));
+    let bytes = part(capture, at, 16);
+    address[..bytes.len()].copy_from_slice(bytes);
     address
+}
+
+// The records of a capture from a place on. It gives each record, and at last the refusal of what is none, if there is one; behind a refusal nothing is read.
+#[derive(Clone, Copy, Debug)]
+pub struct Records<'a> {
+    pub capture: &'a [u8],
+    // None behind a refusal.
+    pub at: Option<usize>,
+}
+
+impl Iterator for Records<'_> {
+    ghost use Rattle.capture.specs.Records.{GivesRecord, left_from};
+
+    type Item = Result<Record, Refusal>;
+
+    ghost next_gives = { λ s r t. GivesRecord s.capture.now s.at r t.at };
+
+    ghost remaining = { λ s. left_from s.capture.now s.at };
+
+    fn next(&mut self) -> Option<Result<Record, Refusal>> {
+        let found = next_record(self.capture, self.at?, 0).transpose()?;
+        self.at = found.ok().map(|record| record.next);
+        Some(found)
+    }
 }

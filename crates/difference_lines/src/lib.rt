@@ -1,4 +1,5 @@
-// The lines that tell what differs between two lists, written into a lent buffer (docs/RULES.md V9 to V12).
+// The lines that tell what differs between two lists, written into a lent buffer (docs/RULES.md V9 to V12). No `Display`, and numbers for refusals and
+// types, as in dump_lines.
 #![tactic(auto)]
 
 ghost use Rattle.std.specs.Prelude.{◌≡◌, ◌++◌, ◌+◌, ◌≤◌, length};
@@ -7,13 +8,14 @@ ghost use Rattle.dump_lines.specs.Text.{newline, field};
 ghost use Rattle.difference_lines.specs.Text.{pair_line, two_line, entry_line, last_line, kind_word};
 ghost use Rattle.difference_lines.specs.Line.{fault_text, text};
 
-use output::Written;
+use refusal::Refusal;
 
 // The lines, in the order in which a text has them.
-#[derive(Clone, Copy)]
+#[derive(Clone, Copy, Debug, PartialEq, Eq)]
 pub enum Line {
     Title,
-    // An entry of a report, by its five numbers (docs/RULES.md V3, V4).
+    // An entry of a report, by its five numbers (docs/RULES.md V3, V4): a report is promised as numbers, and a type in their place would ask more of
+    // callers.
     Entry {
         what: u32,
         first: u32,
@@ -37,13 +39,13 @@ pub enum Line {
 }
 
 // What is wrong with a list.
-#[derive(Clone, Copy)]
+#[derive(Clone, Copy, Debug, PartialEq, Eq)]
 pub enum Fault {
     Stopped { number: u8, place: u64 },
     Empty,
     More { place: u64 },
     Refused { number: u8 },
-    // `kind`: the type of a known message, 0 of an Unknown.
+    // `kind`: the type of a known message, 0 of an Unknown. By number, as in dump_lines.
     Kind { kind: u8 },
     RefusedAt { number: u8, place: u64 },
 }
@@ -52,7 +54,7 @@ pub enum Fault {
 pub const LONGEST: usize = 128;
 
 // Writes a line at a place of `out` and returns the place behind it. If the line does not fit it writes nothing and returns refusal 9.
-pub fn put_line(out: &mut [u8], at: usize, line: Line) -> Written
+pub fn put_line(out: &mut [u8], at: usize, line: Line) -> Result<usize, Refusal>
     ensures answers { (written_told result ≡ room_for (length (text line)) out.old at) × (length (text line) ≤ 128) }
     ensures lent { out.new ≡ leaves (room_for (length (text line)) out.old at) out.old at (text line) }
 {
@@ -81,7 +83,7 @@ fn put_text(out: &mut [u8], at: usize, line: Line) -> usize
         }
         Line::Last { entries } => put_last(out, at, entries),
         Line::Wrong { list, fault } => {
-            let a = put_field(out, at, b"list ", list as u64);
+            let a = put_field(out, at, b"list ", u64::from(list));
             put_fault(out, a, fault)
         }
     }
@@ -94,14 +96,14 @@ fn put_fault(out: &mut [u8], at: usize, fault: Fault) -> usize
 {
     match fault {
         Fault::Stopped { number, place } => {
-            put_two(out, at, b" stopped ", number as u64, b" at ", place)
+            put_two(out, at, b" stopped ", u64::from(number), b" at ", place)
         }
         Fault::Empty => put_bytes(out, at, b" empty\n"),
         Fault::More { place } => put_one(out, at, b" more at ", place),
-        Fault::Refused { number } => put_one(out, at, b" refused ", number as u64),
+        Fault::Refused { number } => put_one(out, at, b" refused ", u64::from(number)),
         Fault::Kind { kind } => put_word(out, at, kind),
         Fault::RefusedAt { number, place } => {
-            put_two(out, at, b" refused ", number as u64, b" at ", place)
+            put_two(out, at, b" refused ", u64::from(number), b" at ", place)
         }
     }
 }
@@ -120,10 +122,10 @@ fn put_entry(
     ensures wrote { Wrote out.old at (entry_line what first second left right) out.new result }
     ensures short { result ≤ at + 128 }
 {
-    let p = first as u64;
-    let q = second as u64;
-    let x = left as u64;
-    let y = right as u64;
+    let p = u64::from(first);
+    let q = u64::from(second);
+    let x = u64::from(left);
+    let y = u64::from(right);
     match what {
         0 => put_pair(out, at, b"same ", p, q, b" type ", x, b" bytes ", y),
         1 => put_pair(out, at, b"type ", p, q, b" from ", x, b" to ", y),
@@ -157,11 +159,9 @@ fn put_word(out: &mut [u8], at: usize, kind: u8) -> usize
     ensures short { result ≤ at + 10 }
 {
     let a = put_bytes(out, at, b" ");
-    match dump_lines::put_kind(out, a, kind) {
-        Written::To(b) => put_bytes(out, b, b"\n"),
-        // Never: there is room.
-        Written::Refused(_) => at,
-    }
+    // Never refused: there is room.
+    let b = dump_lines::put_kind(out, a, kind).unwrap_or(a);
+    put_bytes(out, b, b"\n")
 }
 
 // Two places, and two numbers with a word each.
@@ -195,7 +195,8 @@ fn put_two(out: &mut [u8], at: usize, name: &[u8], x: u64, next: &[u8], y: u64) 
     put_one(out, a, next, y)
 }
 
-// One number with a word, and the end of the line.
+// One number with a word, and the end of the line. This and the two below ask for room: dump_lines can't lend its own, since a public function asks for
+// nothing.
 fn put_one(out: &mut [u8], at: usize, name: &[u8], n: u64) -> usize
     requires { at + length name.now + 21 ≤ length out.old }
     ensures wrote { Wrote out.old at (field name.now n ++ newline) out.new result }
@@ -212,11 +213,8 @@ fn put_field(out: &mut [u8], at: usize, name: &[u8], n: u64) -> usize
     ensures short { result ≤ at + length name.now + 20 }
 {
     let a = put_bytes(out, at, name);
-    match dump_lines::put_number(out, a, n) {
-        Written::To(next) => next,
-        // Never: there is room.
-        Written::Refused(_) => at,
-    }
+    // Never refused: there is room.
+    dump_lines::put_number(out, a, n).unwrap_or(a)
 }
 
 // Bytes that fit.
@@ -224,9 +222,6 @@ fn put_bytes(out: &mut [u8], at: usize, bytes: &[u8]) -> usize
     requires { at + length bytes.now ≤ length out.old }
     ensures { Wrote out.old at bytes.now out.new result }
 {
-    match output::put(out, at, bytes) {
-        Written::To(next) => next,
-        // Never: there is room.
-        Written::Refused(_) => at,
-    }
+    // Never refused: there is room.
+    output::put(out, at, bytes).unwrap_or(at)
 }

@@ -1,4 +1,7 @@
-// The lines of the dump, written into a lent buffer (docs/RULES.md D1 to D9).
+// The lines of the dump, written into a lent buffer (docs/RULES.md D1 to D9). No `Display`: it says nothing of an `Err`, so that refusal 9 could not be
+// promised, and a line would take several times the instructions. Refusals, reasons and types are told by number, as the lines
+// write them: a line says nothing else of them. A buffer and a place in it stay two parameters: of a struct that borrows a buffer each promise would name its
+// two moments.
 #![tactic(auto)]
 
 ghost use Rattle.std.specs.Prelude.{◌≡◌, [], ◌∷◌, ◌++◌, ◌+◌, ◌≤◌, ◌<◌, length};
@@ -7,17 +10,17 @@ ghost use Rattle.dump_lines.specs.Digits.{decimal, pair, hex4, glyph as digits_g
 ghost use Rattle.dump_lines.specs.Text.{field, newline};
 ghost use Rattle.dump_lines.specs.Line.{word_for, ok_word, text};
 
-use output::Written;
+use refusal::Refusal;
 
 // The lines, in the order in which a listing has them.
-#[derive(Clone, Copy)]
+#[derive(Clone, Copy, Debug, PartialEq, Eq)]
 pub enum Line {
     Title,
     Record {
         number: u64,
         place: u64,
     },
-    // `kind`: the type of a known message, 0 of an Unknown.
+    // `kind`: the type of a known message, 0 of an Unknown. By number: a message without its fixed part has a line and no payload.
     Head {
         kind: u8,
         code: u8,
@@ -54,15 +57,13 @@ pub enum Line {
 pub const LONGEST: usize = 128;
 
 // Writes a line at a place of `out` and returns the place behind it. If the line does not fit it writes nothing and returns refusal 9.
-pub fn put_line(out: &mut [u8], at: usize, line: Line) -> Written
+pub fn put_line(out: &mut [u8], at: usize, line: Line) -> Result<usize, Refusal>
     ensures answers { (written_told result ≡ room_for (length (text line)) out.old at) × (length (text line) ≤ 128) }
     ensures lent { out.new ≡ leaves (room_for (length (text line)) out.old at) out.old at (text line) }
 {
     // Not asked of `room`: of a buffer whose length is known this is one comparison.
-    if LONGEST <= out.len() {
-        if at <= out.len() - LONGEST {
-            return Written::To(put_text(out, at, line));
-        }
+    if LONGEST <= out.len() && at <= out.len() - LONGEST {
+        return Ok(put_text(out, at, line));
     }
     let mut own = [0u8; 128];
     let n = put_text(&mut own, 0, line);
@@ -70,7 +71,7 @@ pub fn put_line(out: &mut [u8], at: usize, line: Line) -> Written
 }
 
 // The pieces that lines of other kinds are made of too: a number in decimal, and the word for a kind. They refuse as `put_line` does.
-pub fn put_number(out: &mut [u8], at: usize, n: u64) -> Written
+pub fn put_number(out: &mut [u8], at: usize, n: u64) -> Result<usize, Refusal>
     ensures answers { (written_told result ≡ room_for (length (decimal n)) out.old at) × (length (decimal n) ≤ 20) }
     ensures lent { out.new ≡ leaves (room_for (length (decimal n)) out.old at) out.old at (decimal n) }
 {
@@ -79,7 +80,7 @@ pub fn put_number(out: &mut [u8], at: usize, n: u64) -> Written
     output::put(out, at, &own[..digits])
 }
 
-pub fn put_kind(out: &mut [u8], at: usize, kind: u8) -> Written
+pub fn put_kind(out: &mut [u8], at: usize, kind: u8) -> Result<usize, Refusal>
     ensures answers { (written_told result ≡ room_for (length (word_for kind)) out.old at) × (length (word_for kind) ≤ 8) }
     ensures lent { out.new ≡ leaves (room_for (length (word_for kind)) out.old at) out.old at (word_for kind) }
 {
@@ -110,18 +111,18 @@ fn put_text(out: &mut [u8], at: usize, line: Line) -> usize
         } => put_head(out, at, kind, code, sum, ok, len, recv),
         Line::Opt { place, kind, bytes } => {
             let a = put_field(out, at, b"opt ", place);
-            let b = put_field(out, a, b" type ", kind as u64);
+            let b = put_field(out, a, b" type ", u64::from(kind));
             put_one(out, b, b" bytes ", bytes)
         }
         Line::End { number } => put_one(out, at, b"end ", number),
         Line::RefusedAt { number, place } => {
-            let a = put_field(out, at, b"refused ", number as u64);
+            let a = put_field(out, at, b"refused ", u64::from(number));
             put_one(out, a, b" at ", place)
         }
-        Line::Refused { number } => put_one(out, at, b"refused ", number as u64),
+        Line::Refused { number } => put_one(out, at, b"refused ", u64::from(number)),
         Line::Records { number } => put_one(out, at, b"records ", number),
         Line::Stopped { number, place } => {
-            let a = put_field(out, at, b"stopped ", number as u64);
+            let a = put_field(out, at, b"stopped ", u64::from(number));
             put_one(out, a, b" at ", place)
         }
     }
@@ -143,7 +144,7 @@ fn put_head(
     ensures short { result ≤ at + 128 }
 {
     let a = put_word(out, at, kind);
-    let b = put_field(out, a, b" code ", code as u64);
+    let b = put_field(out, a, b" code ", u64::from(code));
     let c = put_bytes(out, b, b" sum ");
     let d = put_hex4(out, c, sum);
     let e = put_verdict(out, d, ok);
@@ -275,6 +276,6 @@ fn put_bytes(out: &mut [u8], at: usize, bytes: &[u8]) -> usize
     ensures { Wrote out.old at bytes.now out.new result }
 {
     let end = at + bytes.len();
-    output::put(&mut out[at..end], 0, bytes);
+    out[at..end].copy_from_slice(bytes);
     end
 }

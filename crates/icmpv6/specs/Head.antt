@@ -8,10 +8,9 @@ use Rattle.packet_length.specs.Length.{sized}
 use Rattle.icmpv6_type.specs.Value.{type_of, type_told, type_number, code_number}
 use Rattle.icmpv6_type.specs.Reserved.{cleared, kept_bits, keeping}
 use Rattle.icmpv6.specs.declared.icmpv6_header.Icmpv6Header.{Icmpv6Header}
-use Rattle.icmpv6.specs.declared.icmpv6_header.HeaderRead.{HeaderRead}
-use Rattle.icmpv6.specs.declared.icmpv6_header.HeaderRead.TheVariants as read
-use Rattle.icmpv6.specs.declared.icmpv6_slice.Parts.{Parts}
-use Rattle.icmpv6.specs.declared.icmpv6_slice.Parts.TheVariants as parts
+use Rattle.std.specs.Prelude.{Result, Ok, Err}
+use Rattle.refusal.specs.declared.Refusal.{Refusal}
+use Rattle.icmpv6.specs.declared.icmpv6_slice.HeadParts.{HeadParts}
 
 -- bytes 4 to 7
 abbrev pub fields_at : List ℕ → List ℕ
@@ -71,10 +70,10 @@ SameHead x y = (x.icmp_type ≡ y.icmp_type) × (x.checksum ≡ y.checksum) × (
 abbrev pub header_told : Icmpv6Header → List ℕ
 header_told h = h.checksum ∷ h.bytes5to8 ∷ type_told h.icmp_type
 
-abbrev pub header_read_told : HeaderRead → Paper
-header_read_told (read.Header h) = gives (header_told h)
-header_read_told (read.Refused r) = refusal r
+abbrev pub header_read_told : Result Icmpv6Header Refusal → Paper
+header_read_told (Ok h) = gives (header_told h)
+header_read_told (Err r) = refusal r
 
-abbrev pub parts_told : Parts → Paper
-parts_told (parts.Head h) = gives (h.type_u8 ∷ h.code_u8 ∷ h.checksum ∷ h.bytes5to8 ∷ [])
-parts_told (parts.Refused r) = refusal r
+abbrev pub parts_told : Result HeadParts Refusal → Paper
+parts_told (Ok h) = gives (h.type_u8 ∷ h.code_u8 ∷ h.checksum ∷ h.bytes5to8 ∷ [])
+parts_told (Err r) = refusal r

@@ -6,23 +6,15 @@ ghost use Rattle.icmpv6.specs.Preference.{preference_in};
 ghost use Rattle.icmpv6.specs.Head.{Clearing, Keeping, by_default, header_told, header_read_told, decode_of, encode_with, encode_by};
 
 use icmpv6_type::Icmpv6Type;
-use message_table::types;
-use packet_length::PacketLength;
 use refusal::Refusal;
 use router_preference::RouterPreference;
 
 // Of `bytes5to8`, bytes 4 to 7 as one number, high byte first, the reserved bits alone count; 0 in a header that was made and not read.
-#[derive(Clone, Copy)]
+#[derive(Clone, Copy, Debug, PartialEq, Eq)]
 pub struct Icmpv6Header {
     pub icmp_type: Icmpv6Type,
     pub checksum: u16,
     pub bytes5to8: u32,
-}
-
-#[derive(Clone, Copy)]
-pub enum HeaderRead {
-    Header(Icmpv6Header),
-    Refused(Refusal),
 }
 
 impl Icmpv6Header {
@@ -43,20 +35,16 @@ impl Icmpv6Header {
     }
 
     // The header at the start of a packet.
-    pub fn from_slice(packet: &[u8]) -> HeaderRead
+    pub fn from_slice(packet: &[u8]) -> Result<Icmpv6Header, Refusal>
         ensures { header_read_told result ≡ decode_of packet.now }
     {
-        match packet_length::check_len(packet.len()) {
-            PacketLength::Refused(why) => HeaderRead::Refused(why),
-            PacketLength::Fits => {
-                let rest = [packet[4], packet[5], packet[6], packet[7]];
-                HeaderRead::Header(Icmpv6Header {
-                    icmp_type: Icmpv6Type::from_parts(packet[0], packet[1], rest),
-                    checksum: wire::u16_from_be(packet[2], packet[3]),
-                    bytes5to8: wire::u32_from_be(rest[0], rest[1], rest[2], rest[3]),
-                })
-            }
-        }
+        packet_length::check_len(packet.len())?;
+        let rest = [packet[4], packet[5], packet[6], packet[7]];
+        Ok(Self {
+            icmp_type: Icmpv6Type::from_parts(packet[0], packet[1], rest),
+            checksum: u16::from_be_bytes([packet[2], packet[3]]),
+            bytes5to8: u32::from_be_bytes(rest),
+        })
     }
 
     // How many bytes the header is written as. What `from_slice` leaves of the packet is `icmpv6_slice::payload`.
@@ -70,18 +58,17 @@ impl Icmpv6Header {
     fn with_kept(self, kept: u32) -> [u8; 8]
         ensures { result ≡ encode_with kept self }
     {
-        let t = self.icmp_type;
-        let sum = wire::u16_to_be(self.checksum);
-        let rest = t.bytes5to8_keeping(kept);
+        let [s, t] = self.checksum.to_be_bytes();
+        let [a, b, c, d] = self.icmp_type.bytes5to8_keeping(kept);
         [
-            t.type_u8(),
-            t.code_u8(),
-            sum[0],
-            sum[1],
-            rest[0],
-            rest[1],
-            rest[2],
-            rest[3],
+            self.icmp_type.type_u8(),
+            self.icmp_type.code_u8(),
+            s,
+            t,
+            a,
+            b,
+            c,
+            d,
         ]
     }
 
@@ -111,11 +98,12 @@ impl Icmpv6Header {
     pub fn router_preference(self) -> RouterPreference
         ensures { preference_number result ≡ preference_in self }
     {
-        let t = self.icmp_type;
-        if t.kind_u8() == types::TYPE_ROUTER_ADVERTISEMENT {
-            let kept = wire::u32_to_be(self.bytes5to8);
-            return RouterPreference::of_flags(kept[1]);
+        match self.icmp_type {
+            Icmpv6Type::RouterAdvertisement(_) => {
+                let [_, flags, _, _] = self.bytes5to8.to_be_bytes();
+                RouterPreference::of_flags(flags)
+            }
+            _ => RouterPreference::Medium,
         }
-        RouterPreference::Medium
     }
 }

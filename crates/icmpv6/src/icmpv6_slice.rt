@@ -2,11 +2,10 @@
 ghost use Rattle.std.specs.Prelude.{◌≡◌, drop};
 ghost use Rattle.icmpv6.specs.Head.{parts_told, head_parts};
 
-use packet_length::PacketLength;
 use refusal::Refusal;
 
 // Type, code, checksum field, and bytes 4 to 7 as one number, high byte first.
-#[derive(Clone, Copy)]
+#[derive(Clone, Copy, Debug, PartialEq, Eq)]
 pub struct HeadParts {
     pub type_u8: u8,
     pub code_u8: u8,
@@ -14,32 +13,21 @@ pub struct HeadParts {
     pub bytes5to8: u32,
 }
 
-#[derive(Clone, Copy)]
-pub enum Parts {
-    Head(HeadParts),
-    Refused(Refusal),
-}
-
-pub fn head_parts(packet: &[u8]) -> Parts
+pub fn head_parts(packet: &[u8]) -> Result<HeadParts, Refusal>
     ensures { parts_told result ≡ head_parts packet.now }
 {
-    match packet_length::check_len(packet.len()) {
-        PacketLength::Refused(why) => Parts::Refused(why),
-        PacketLength::Fits => Parts::Head(HeadParts {
-            type_u8: packet[0],
-            code_u8: packet[1],
-            checksum: wire::u16_from_be(packet[2], packet[3]),
-            bytes5to8: wire::u32_from_be(packet[4], packet[5], packet[6], packet[7]),
-        }),
-    }
+    packet_length::check_len(packet.len())?;
+    Ok(HeadParts {
+        type_u8: packet[0],
+        code_u8: packet[1],
+        checksum: u16::from_be_bytes([packet[2], packet[3]]),
+        bytes5to8: u32::from_be_bytes([packet[4], packet[5], packet[6], packet[7]]),
+    })
 }
 
 // The bytes behind the head, as a part of the caller's slice. None if the packet has no more than a head. Refuses nothing (docs/RULES.md H9).
 pub fn payload(packet: &[u8]) -> &[u8]
     ensures { result.now ≡ drop 8 packet.now }
 {
-    if packet.len() < packet_length::MIN_LEN {
-        return &packet[packet.len()..];
-    }
-    &packet[packet_length::MIN_LEN..]
+    packet.get(packet_length::MIN_LEN..).unwrap_or(&[])
 }

@@ -7,8 +7,8 @@ use Rattle.icmpv6_type.specs.declared.Icmpv6Type.{Icmpv6Type}
 use Rattle.icmpv6.specs.declared.icmpv6_header.Icmpv6Header.{Icmpv6Header}
 use Rattle.icmpv6.specs.Head.{Way, Clearing, encode_by, header_told}
 use Rattle.checksum.specs.Icmpv6.{checksum_of, computed_of}
-use Rattle.icmpv6_checksum.specs.declared.HeaderMade.{HeaderMade}
-use Rattle.icmpv6_checksum.specs.declared.HeaderMade.TheVariants.{Header, Refused}
+use Rattle.std.specs.Prelude.{Result, Ok, Err}
+use Rattle.refusal.specs.declared.Refusal.{Refusal}
 
 -- refusal 3, or the checksum of the bytes that a way writes of a header, with a payload; whatever its field holds
 abbrev pub calc_by : Way → List ℕ → List ℕ → Icmpv6Header → List ℕ → Paper
@@ -48,6 +48,6 @@ calc_of source destination t payload = calc_by Clearing source destination (made
 abbrev pub with_of : List ℕ → List ℕ → Icmpv6Type → List ℕ → Paper
 with_of source destination t payload = sealed_by Clearing source destination (made_of t) payload
 
-abbrev pub made : HeaderMade → Paper
-made (Header h) = gives (header_told h)
-made (Refused r) = refusal r
+abbrev pub made : Result Icmpv6Header Refusal → Paper
+made (Ok h) = gives (header_told h)
+made (Err r) = refusal r

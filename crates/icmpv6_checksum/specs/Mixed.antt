@@ -3,10 +3,9 @@
 -- Assumes nothing.
 use Rattle.std.specs.Prelude.{ℕ, false, ◌≡◌, List, [], ◌∷◌, ◌++◌, replicate}
 use Rattle.paper.specs.Paper.{gives}
-use Rattle.icmpv6_headers.specs.declared.router_advertisement_header.RouterAdvertisementHeader.{RouterAdvertisementHeader}
 use Rattle.icmpv6_type.specs.declared.Icmpv6Type.TheVariants.{RouterAdvertisement}
 use Rattle.icmpv6.specs.declared.icmpv6_header.Icmpv6Header.{Icmpv6Header}
-use Rattle.icmpv6.specs.Head.{Way, Clearing, Keeping, encode_by}
+use Rattle.icmpv6.specs.Head.{Way, encode_by}
 use Rattle.checksum.specs.Icmpv6.{verdict_of, valid, invalid}
 use Rattle.icmpv6_checksum.specs.Header.{calc_by}
 

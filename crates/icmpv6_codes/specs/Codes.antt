@@ -1,19 +1,13 @@
 -- The numbers of the listed codes: type 1 (RFC 4443, section 3.1), type 3 (section 3.3), type 4 (section 3.4; RFC 7112, 8754, 8883).
 -- Assumes nothing.
-use Rattle.std.specs.Prelude.{ℕ, cond, [], ◌∷◌, eqb, ltb}
+use Rattle.std.specs.Prelude.{ℕ, Option, None, Some, cond, [], ◌∷◌, eqb, ltb}
 use Rattle.paper.specs.Paper.{Paper, gives}
 use Rattle.icmpv6_codes.specs.declared.dest_unreachable_code.DestUnreachableCode.{DestUnreachableCode}
 use Rattle.icmpv6_codes.specs.declared.dest_unreachable_code.DestUnreachableCode.TheVariants.{NoRoute, Prohibited, BeyondScope, Address, Port, SourceAddressFailedPolicy, RejectRoute}
-use Rattle.icmpv6_codes.specs.declared.dest_unreachable_code.DestUnreachableListing.{DestUnreachableListing}
-use Rattle.icmpv6_codes.specs.declared.dest_unreachable_code.DestUnreachableListing.TheVariants as dest
 use Rattle.icmpv6_codes.specs.declared.time_exceeded_code.TimeExceededCode.{TimeExceededCode}
 use Rattle.icmpv6_codes.specs.declared.time_exceeded_code.TimeExceededCode.TheVariants.{HopLimitExceeded, FragmentReassemblyTimeExceeded}
-use Rattle.icmpv6_codes.specs.declared.time_exceeded_code.TimeExceededListing.{TimeExceededListing}
-use Rattle.icmpv6_codes.specs.declared.time_exceeded_code.TimeExceededListing.TheVariants as time
 use Rattle.icmpv6_codes.specs.declared.parameter_problem_code.ParameterProblemCode.{ParameterProblemCode}
 use Rattle.icmpv6_codes.specs.declared.parameter_problem_code.ParameterProblemCode.TheVariants.{ErroneousHeaderField, UnrecognizedNextHeader, UnrecognizedIpv6Option, FirstFragmentIncompleteHeaderChain, SrUpperLayerHeaderError, UnrecognizedNextHeaderByIntermediateNode, ExtensionHeaderTooBig, ExtensionHeaderChainTooLong, TooManyExtensionHeaders, TooManyOptionsInExtensionHeader, OptionTooBig}
-use Rattle.icmpv6_codes.specs.declared.parameter_problem_code.ParameterProblemListing.{ParameterProblemListing}
-use Rattle.icmpv6_codes.specs.declared.parameter_problem_code.ParameterProblemListing.TheVariants as problem
 
 -- a code of a type that lists n of them from 0 on; no value where it is not listed
 unfoldable pub listed : ℕ → ℕ → Paper
@@ -38,9 +32,9 @@ dest_of n =
     (cond (eqb n 4) Port
     (cond (eqb n 5) SourceAddressFailedPolicy RejectRoute)))))
 
-abbrev pub dest_told : DestUnreachableListing → Paper
-dest_told (dest.Listed c) = gives (dest_number c ∷ [])
-dest_told dest.NotListed = gives []
+abbrev pub dest_told : Option DestUnreachableCode → Paper
+dest_told (Some c) = gives (dest_number c ∷ [])
+dest_told None = gives []
 
 abbrev pub time_number : TimeExceededCode → ℕ
 time_number HopLimitExceeded = 0
@@ -49,9 +43,9 @@ time_number FragmentReassemblyTimeExceeded = 1
 abbrev pub time_of : ℕ → TimeExceededCode
 time_of n = cond (eqb n 0) HopLimitExceeded FragmentReassemblyTimeExceeded
 
-abbrev pub time_told : TimeExceededListing → Paper
-time_told (time.Listed c) = gives (time_number c ∷ [])
-time_told time.NotListed = gives []
+abbrev pub time_told : Option TimeExceededCode → Paper
+time_told (Some c) = gives (time_number c ∷ [])
+time_told None = gives []
 
 abbrev pub problem_number : ParameterProblemCode → ℕ
 problem_number ErroneousHeaderField = 0
@@ -79,6 +73,6 @@ problem_of n =
     (cond (eqb n 8) TooManyExtensionHeaders
     (cond (eqb n 9) TooManyOptionsInExtensionHeader OptionTooBig)))))))))
 
-abbrev pub problem_told : ParameterProblemListing → Paper
-problem_told (problem.Listed c) = gives (problem_number c ∷ [])
-problem_told problem.NotListed = gives []
+abbrev pub problem_told : Option ParameterProblemCode → Paper
+problem_told (Some c) = gives (problem_number c ∷ [])
+problem_told None = gives []

@@ -16,7 +16,8 @@ pub const CODE_DST_UNREACH_SOURCE_ADDRESS_FAILED_POLICY: u8 = 5;
 
 pub const CODE_DST_UNREACH_REJECT_ROUTE_TO_DEST: u8 = 6;
 
-#[derive(Clone, Copy)]
+// In the order of their codes, which begin at 0.
+#[derive(Clone, Copy, Debug, PartialEq, Eq)]
 pub enum DestUnreachableCode {
     NoRoute,
     Prohibited,
@@ -27,46 +28,26 @@ pub enum DestUnreachableCode {
     RejectRoute,
 }
 
-// A listed code, or none.
-#[derive(Clone, Copy)]
-pub enum DestUnreachableListing {
-    Listed(DestUnreachableCode),
-    NotListed,
-}
-
 impl DestUnreachableCode {
     #[tactic(auto, unfolding(crate::specs::Codes::listed))]
-    pub fn from_u8(code: u8) -> DestUnreachableListing
+    pub fn from_u8(code: u8) -> Option<DestUnreachableCode>
         ensures { dest_told result ≡ listed 7 code }
     {
         match code {
-            CODE_DST_UNREACH_NO_ROUTE => DestUnreachableListing::Listed(Self::NoRoute),
-            CODE_DST_UNREACH_PROHIBITED => DestUnreachableListing::Listed(Self::Prohibited),
-            CODE_DST_UNREACH_BEYOND_SCOPE => DestUnreachableListing::Listed(Self::BeyondScope),
-            CODE_DST_UNREACH_ADDR => DestUnreachableListing::Listed(Self::Address),
-            CODE_DST_UNREACH_PORT => DestUnreachableListing::Listed(Self::Port),
-            CODE_DST_UNREACH_SOURCE_ADDRESS_FAILED_POLICY => DestUnreachableListing::Listed(
-                Self::SourceAddressFailedPolicy,
-            ),
-            CODE_DST_UNREACH_REJECT_ROUTE_TO_DEST => DestUnreachableListing::Listed(
-                Self::RejectRoute,
-            ),
-            _ => DestUnreachableListing::NotListed,
+            CODE_DST_UNREACH_NO_ROUTE => Some(Self::NoRoute),
+            CODE_DST_UNREACH_PROHIBITED => Some(Self::Prohibited),
+            CODE_DST_UNREACH_BEYOND_SCOPE => Some(Self::BeyondScope),
+            CODE_DST_UNREACH_ADDR => Some(Self::Address),
+            CODE_DST_UNREACH_PORT => Some(Self::Port),
+            CODE_DST_UNREACH_SOURCE_ADDRESS_FAILED_POLICY => Some(Self::SourceAddressFailedPolicy),
+            CODE_DST_UNREACH_REJECT_ROUTE_TO_DEST => Some(Self::RejectRoute),
+            _ => None,
         }
     }
 
     pub fn code_u8(self) -> u8
         ensures { result ≡ dest_number self }
     {
-        match self {
-            DestUnreachableCode::NoRoute => CODE_DST_UNREACH_NO_ROUTE,
-            DestUnreachableCode::Prohibited => CODE_DST_UNREACH_PROHIBITED,
-            DestUnreachableCode::BeyondScope => CODE_DST_UNREACH_BEYOND_SCOPE,
-            DestUnreachableCode::Address => CODE_DST_UNREACH_ADDR,
-            DestUnreachableCode::Port => CODE_DST_UNREACH_PORT,
-            DestUnreachableCode::SourceAddressFailedPolicy =>
-                CODE_DST_UNREACH_SOURCE_ADDRESS_FAILED_POLICY,
-            DestUnreachableCode::RejectRoute => CODE_DST_UNREACH_REJECT_ROUTE_TO_DEST,
-        }
+        self as u8
     }
 }

@@ -24,7 +24,8 @@ pub const CODE_PARAM_PROBLEM_TOO_MANY_OPTIONS_EXT_HEADER: u8 = 9;
 
 pub const CODE_PARAM_PROBLEM_OPTION_TOO_BIG: u8 = 10;
 
-#[derive(Clone, Copy)]
+// In the order of their codes, which begin at 0.
+#[derive(Clone, Copy, Debug, PartialEq, Eq)]
 pub enum ParameterProblemCode {
     ErroneousHeaderField,
     UnrecognizedNextHeader,
@@ -39,75 +40,36 @@ pub enum ParameterProblemCode {
     OptionTooBig,
 }
 
-// A listed code, or none.
-#[derive(Clone, Copy)]
-pub enum ParameterProblemListing {
-    Listed(ParameterProblemCode),
-    NotListed,
-}
-
 impl ParameterProblemCode {
     #[tactic(auto, unfolding(crate::specs::Codes::listed))]
-    pub fn from_u8(code: u8) -> ParameterProblemListing
+    pub fn from_u8(code: u8) -> Option<ParameterProblemCode>
         ensures { problem_told result ≡ listed 11 code }
     {
         match code {
-            CODE_PARAM_PROBLEM_ERR_HEADER_FIELD => ParameterProblemListing::Listed(
-                Self::ErroneousHeaderField,
+            CODE_PARAM_PROBLEM_ERR_HEADER_FIELD => Some(Self::ErroneousHeaderField),
+            CODE_PARAM_PROBLEM_UNRECOG_NEXT_HEADER => Some(Self::UnrecognizedNextHeader),
+            CODE_PARAM_PROBLEM_UNRECOG_IPV6_OPTION => Some(Self::UnrecognizedIpv6Option),
+            CODE_PARAM_PROBLEM_IPV6_FIRST_FRAG_INCOMP_HEADER_CHAIN => Some(
+                Self::FirstFragmentIncompleteHeaderChain,
             ),
-            CODE_PARAM_PROBLEM_UNRECOG_NEXT_HEADER => ParameterProblemListing::Listed(
-                Self::UnrecognizedNextHeader,
+            CODE_PARAM_PROBLEM_SR_UPPER_LAYER_HEADER_ERROR => Some(Self::SrUpperLayerHeaderError),
+            CODE_PARAM_PROBLEM_UNRECOG_NEXT_HEADER_BY_INTERMEDIATE_NODE => Some(
+                Self::UnrecognizedNextHeaderByIntermediateNode,
             ),
-            CODE_PARAM_PROBLEM_UNRECOG_IPV6_OPTION => ParameterProblemListing::Listed(
-                Self::UnrecognizedIpv6Option,
-            ),
-            CODE_PARAM_PROBLEM_IPV6_FIRST_FRAG_INCOMP_HEADER_CHAIN =>
-                ParameterProblemListing::Listed(Self::FirstFragmentIncompleteHeaderChain),
-            CODE_PARAM_PROBLEM_SR_UPPER_LAYER_HEADER_ERROR => ParameterProblemListing::Listed(
-                Self::SrUpperLayerHeaderError,
-            ),
-            CODE_PARAM_PROBLEM_UNRECOG_NEXT_HEADER_BY_INTERMEDIATE_NODE =>
-                ParameterProblemListing::Listed(Self::UnrecognizedNextHeaderByIntermediateNode),
-            CODE_PARAM_PROBLEM_EXT_HEADER_TOO_BIG => ParameterProblemListing::Listed(
-                Self::ExtensionHeaderTooBig,
-            ),
-            CODE_PARAM_PROBLEM_EXT_HEADER_CHAIN_TOO_LONG => ParameterProblemListing::Listed(
-                Self::ExtensionHeaderChainTooLong,
-            ),
-            CODE_PARAM_PROBLEM_TOO_MANY_EXT_HEADERS => ParameterProblemListing::Listed(
-                Self::TooManyExtensionHeaders,
-            ),
-            CODE_PARAM_PROBLEM_TOO_MANY_OPTIONS_EXT_HEADER => ParameterProblemListing::Listed(
+            CODE_PARAM_PROBLEM_EXT_HEADER_TOO_BIG => Some(Self::ExtensionHeaderTooBig),
+            CODE_PARAM_PROBLEM_EXT_HEADER_CHAIN_TOO_LONG => Some(Self::ExtensionHeaderChainTooLong),
+            CODE_PARAM_PROBLEM_TOO_MANY_EXT_HEADERS => Some(Self::TooManyExtensionHeaders),
+            CODE_PARAM_PROBLEM_TOO_MANY_OPTIONS_EXT_HEADER => Some(
                 Self::TooManyOptionsInExtensionHeader,
             ),
-            CODE_PARAM_PROBLEM_OPTION_TOO_BIG => ParameterProblemListing::Listed(
-                Self::OptionTooBig,
-            ),
-            _ => ParameterProblemListing::NotListed,
+            CODE_PARAM_PROBLEM_OPTION_TOO_BIG => Some(Self::OptionTooBig),
+            _ => None,
         }
     }
 
     pub fn code_u8(self) -> u8
         ensures { result ≡ problem_number self }
     {
-        match self {
-            ParameterProblemCode::ErroneousHeaderField => CODE_PARAM_PROBLEM_ERR_HEADER_FIELD,
-            ParameterProblemCode::UnrecognizedNextHeader => CODE_PARAM_PROBLEM_UNRECOG_NEXT_HEADER,
-            ParameterProblemCode::UnrecognizedIpv6Option => CODE_PARAM_PROBLEM_UNRECOG_IPV6_OPTION,
-            ParameterProblemCode::FirstFragmentIncompleteHeaderChain =>
-                CODE_PARAM_PROBLEM_IPV6_FIRST_FRAG_INCOMP_HEADER_CHAIN,
-            ParameterProblemCode::SrUpperLayerHeaderError =>
-                CODE_PARAM_PROBLEM_SR_UPPER_LAYER_HEADER_ERROR,
-            ParameterProblemCode::UnrecognizedNextHeaderByIntermediateNode =>
-                CODE_PARAM_PROBLEM_UNRECOG_NEXT_HEADER_BY_INTERMEDIATE_NODE,
-            ParameterProblemCode::ExtensionHeaderTooBig => CODE_PARAM_PROBLEM_EXT_HEADER_TOO_BIG,
-            ParameterProblemCode::ExtensionHeaderChainTooLong =>
-                CODE_PARAM_PROBLEM_EXT_HEADER_CHAIN_TOO_LONG,
-            ParameterProblemCode::TooManyExtensionHeaders =>
-                CODE_PARAM_PROBLEM_TOO_MANY_EXT_HEADERS,
-            ParameterProblemCode::TooManyOptionsInExtensionHeader =>
-                CODE_PARAM_PROBLEM_TOO_MANY_OPTIONS_EXT_HEADER,
-            ParameterProblemCode::OptionTooBig => CODE_PARAM_PROBLEM_OPTION_TOO_BIG,
-        }
+        self as u8
     }
 }

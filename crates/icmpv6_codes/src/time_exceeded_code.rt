@@ -6,42 +6,30 @@ pub const CODE_TIME_EXCEEDED_HOP_LIMIT_EXCEEDED: u8 = 0;
 
 pub const CODE_TIME_EXCEEDED_FRAGMENT_REASSEMBLY_TIME_EXCEEDED: u8 = 1;
 
-#[derive(Clone, Copy)]
+// In the order of their codes, which begin at 0.
+#[derive(Clone, Copy, Debug, PartialEq, Eq)]
 pub enum TimeExceededCode {
     HopLimitExceeded,
     FragmentReassemblyTimeExceeded,
 }
 
-// A listed code, or none.
-#[derive(Clone, Copy)]
-pub enum TimeExceededListing {
-    Listed(TimeExceededCode),
-    NotListed,
-}
-
 impl TimeExceededCode {
     #[tactic(auto, unfolding(crate::specs::Codes::listed))]
-    pub fn from_u8(code: u8) -> TimeExceededListing
+    pub fn from_u8(code: u8) -> Option<TimeExceededCode>
         ensures { time_told result ≡ listed 2 code }
     {
         match code {
-            CODE_TIME_EXCEEDED_HOP_LIMIT_EXCEEDED => TimeExceededListing::Listed(
-                Self::HopLimitExceeded,
-            ),
-            CODE_TIME_EXCEEDED_FRAGMENT_REASSEMBLY_TIME_EXCEEDED => TimeExceededListing::Listed(
+            CODE_TIME_EXCEEDED_HOP_LIMIT_EXCEEDED => Some(Self::HopLimitExceeded),
+            CODE_TIME_EXCEEDED_FRAGMENT_REASSEMBLY_TIME_EXCEEDED => Some(
                 Self::FragmentReassemblyTimeExceeded,
             ),
-            _ => TimeExceededListing::NotListed,
+            _ => None,
         }
     }
 
     pub fn code_u8(self) -> u8
         ensures { result ≡ time_number self }
     {
-        match self {
-            TimeExceededCode::HopLimitExceeded => CODE_TIME_EXCEEDED_HOP_LIMIT_EXCEEDED,
-            TimeExceededCode::FragmentReassemblyTimeExceeded =>
-                CODE_TIME_EXCEEDED_FRAGMENT_REASSEMBLY_TIME_EXCEEDED,
-        }
+        self as u8
     }
 }

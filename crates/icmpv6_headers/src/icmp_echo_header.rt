@@ -2,7 +2,7 @@
 ghost use Rattle.std.specs.Prelude.{◌≡◌};
 ghost use Rattle.icmpv6_headers.specs.Headers.{echo_told, echo_of, echo_bytes};
 
-#[derive(Clone, Copy)]
+#[derive(Clone, Copy, Debug, PartialEq, Eq)]
 pub struct IcmpEchoHeader {
     pub id: u16,
     pub seq: u16,
@@ -12,17 +12,18 @@ impl IcmpEchoHeader {
     pub fn from_bytes(bytes: [u8; 4]) -> Self
         ensures { echo_told result ≡ echo_of bytes }
     {
+        let [a, b, c, d] = bytes;
         Self {
-            id: wire::u16_from_be(bytes[0], bytes[1]),
-            seq: wire::u16_from_be(bytes[2], bytes[3]),
+            id: u16::from_be_bytes([a, b]),
+            seq: u16::from_be_bytes([c, d]),
         }
     }
 
     pub fn to_bytes(self) -> [u8; 4]
         ensures { result ≡ echo_bytes self }
     {
-        let id = wire::u16_to_be(self.id);
-        let seq = wire::u16_to_be(self.seq);
-        [id[0], id[1], seq[0], seq[1]]
+        let [a, b] = self.id.to_be_bytes();
+        let [c, d] = self.seq.to_be_bytes();
+        [a, b, c, d]
     }
 }

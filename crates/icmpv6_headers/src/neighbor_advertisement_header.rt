@@ -2,7 +2,7 @@
 ghost use Rattle.std.specs.Prelude.{◌≡◌};
 ghost use Rattle.icmpv6_headers.specs.Headers.{neighbor_told, neighbor_of, neighbor_bytes};
 
-#[derive(Clone, Copy)]
+#[derive(Clone, Copy, Debug, PartialEq, Eq)]
 pub struct NeighborAdvertisementHeader {
     pub router: bool,
     pub solicited: bool,

@@ -2,7 +2,7 @@
 ghost use Rattle.std.specs.Prelude.{◌≡◌};
 ghost use Rattle.icmpv6_headers.specs.Headers.{router_told, router_of, router_bytes};
 
-#[derive(Clone, Copy)]
+#[derive(Clone, Copy, Debug, PartialEq, Eq)]
 pub struct RouterAdvertisementHeader {
     pub cur_hop_limit: u8,
     pub managed_address_config: bool,
@@ -18,11 +18,12 @@ impl RouterAdvertisementHeader {
     pub fn from_bytes(bytes: [u8; 4]) -> Self
         ensures { router_told result ≡ router_of bytes }
     {
+        let [cur_hop_limit, flags, a, b] = bytes;
         Self {
-            cur_hop_limit: bytes[0],
-            managed_address_config: wire::has_flag(bytes[1], Self::MANAGED_ADDRESS_CONFIG_MASK),
-            other_config: wire::has_flag(bytes[1], Self::OTHER_CONFIG_MASK),
-            router_lifetime: wire::u16_from_be(bytes[2], bytes[3]),
+            cur_hop_limit,
+            managed_address_config: wire::has_flag(flags, Self::MANAGED_ADDRESS_CONFIG_MASK),
+            other_config: wire::has_flag(flags, Self::OTHER_CONFIG_MASK),
+            router_lifetime: u16::from_be_bytes([a, b]),
         }
     }
 
@@ -34,12 +35,7 @@ impl RouterAdvertisementHeader {
             Self::MANAGED_ADDRESS_CONFIG_MASK,
         );
         let other = wire::flag_of(self.other_config, Self::OTHER_CONFIG_MASK);
-        let lifetime = wire::u16_to_be(self.router_lifetime);
-        [
-            self.cur_hop_limit,
-            managed + other,
-            lifetime[0],
-            lifetime[1],
-        ]
+        let [a, b] = self.router_lifetime.to_be_bytes();
+        [self.cur_hop_limit, managed + other, a, b]
     }
 }

@@ -1,18 +1,14 @@
 // The fixed part of a neighbor advertisement (RFC 4861, section 4.4): the target.
 ghost use Rattle.std.specs.Prelude.{◌≡◌};
-ghost use Rattle.icmpv6_payload.specs.Fixed.{fixed_told, fixed_of, part_of};
+ghost use Rattle.icmpv6_payload.specs.Owned.{advertisement_from};
+ghost use Rattle.icmpv6_payload.specs.Fixed.{fixed_of};
 
-use crate::FixedPart;
+use refusal::Refusal;
 
-#[derive(Clone, Copy)]
+// A type of its own, so that no solicitation is taken for an advertisement.
+#[derive(Clone, Copy, Debug, PartialEq, Eq)]
 pub struct NeighborAdvertisementPayload {
     pub target_address: [u8; 16],
-}
-
-#[derive(Clone, Copy)]
-pub struct NeighborAdvertisementRead {
-    pub answer: FixedPart,
-    pub payload: NeighborAdvertisementPayload,
 }
 
 impl NeighborAdvertisementPayload {
@@ -27,16 +23,10 @@ impl NeighborAdvertisementPayload {
     }
 
     // The fixed part at the start of a payload.
-    pub fn from_slice(payload: &[u8]) -> NeighborAdvertisementRead
-        ensures answers { fixed_told result.answer ≡ fixed_of 16 payload.now }
-        ensures tells { result.payload.target_address ≡ part_of 16 payload.now }
+    pub fn from_slice(payload: &[u8]) -> Result<Self, Refusal>
+        ensures { result ≡ fixed_of advertisement_from 16 payload.now }
     {
-        let mut bytes = [0; 16];
-        let answer = crate::fill(&mut bytes, payload);
-        NeighborAdvertisementRead {
-            answer,
-            payload: NeighborAdvertisementPayload::from_bytes(bytes),
-        }
+        Ok(Self::from_bytes(crate::first(payload)?))
     }
 
     pub fn to_bytes(self) -> [u8; 16]

@@ -1,18 +1,13 @@
 // The fixed part of a neighbor solicitation (RFC 4861, section 4.3): the target.
 ghost use Rattle.std.specs.Prelude.{◌≡◌};
-ghost use Rattle.icmpv6_payload.specs.Fixed.{fixed_told, fixed_of, part_of};
+ghost use Rattle.icmpv6_payload.specs.Owned.{solicitation_from};
+ghost use Rattle.icmpv6_payload.specs.Fixed.{fixed_of};
 
-use crate::FixedPart;
+use refusal::Refusal;
 
-#[derive(Clone, Copy)]
+#[derive(Clone, Copy, Debug, PartialEq, Eq)]
 pub struct NeighborSolicitationPayload {
     pub target_address: [u8; 16],
-}
-
-#[derive(Clone, Copy)]
-pub struct NeighborSolicitationRead {
-    pub answer: FixedPart,
-    pub payload: NeighborSolicitationPayload,
 }
 
 impl NeighborSolicitationPayload {
@@ -27,16 +22,10 @@ impl NeighborSolicitationPayload {
     }
 
     // The fixed part at the start of a payload.
-    pub fn from_slice(payload: &[u8]) -> NeighborSolicitationRead
-        ensures answers { fixed_told result.answer ≡ fixed_of 16 payload.now }
-        ensures tells { result.payload.target_address ≡ part_of 16 payload.now }
+    pub fn from_slice(payload: &[u8]) -> Result<Self, Refusal>
+        ensures { result ≡ fixed_of solicitation_from 16 payload.now }
     {
-        let mut bytes = [0; 16];
-        let answer = crate::fill(&mut bytes, payload);
-        NeighborSolicitationRead {
-            answer,
-            payload: NeighborSolicitationPayload::from_bytes(bytes),
-        }
+        Ok(Self::from_bytes(crate::first(payload)?))
     }
 
     pub fn to_bytes(self) -> [u8; 16]

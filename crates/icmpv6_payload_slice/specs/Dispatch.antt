@@ -11,8 +11,9 @@ use Rattle.icmpv6_type.specs.declared.Icmpv6Type.{Icmpv6Type}
 use Rattle.icmpv6_type.specs.Value as value
 use Rattle.icmpv6_payload_slice.specs.declared.Icmpv6PayloadKind.{Icmpv6PayloadKind}
 use Rattle.icmpv6_payload_slice.specs.declared.Icmpv6PayloadKind.TheVariants.{Raw, DestinationUnreachable, PacketTooBig, TimeExceeded, ParameterProblem, EchoRequest, EchoReply, RouterSolicitation, RouterAdvertisement, NeighborSolicitation, NeighborAdvertisement, Redirect}
-use Rattle.icmpv6_payload_slice.specs.declared.PayloadRead.{PayloadRead}
-use Rattle.icmpv6_payload_slice.specs.declared.PayloadRead.TheVariants.{Payload, Refused}
+use Rattle.std.specs.Prelude.{Result, Ok, Err}
+use Rattle.refusal.specs.declared.Refusal.{Refusal}
+use Rattle.icmpv6_payload_slice.specs.declared.Icmpv6PayloadSlice.{Icmpv6PayloadSlice}
 
 -- the kind of a type that the table has is the type; of any other it is 0, raw
 abbrev pub payload_kind : ℕ → ℕ
@@ -62,6 +63,6 @@ payload_kind_number NeighborSolicitation = 135
 payload_kind_number NeighborAdvertisement = 136
 payload_kind_number Redirect = 137
 
-abbrev pub payload_told : PayloadRead → Paper
-payload_told (Payload p) = gives (p.payload_at ∷ p.options_at ∷ payload_kind_number p.kind ∷ [])
-payload_told (Refused r) = refusal r
+abbrev pub payload_told : Result Icmpv6PayloadSlice Refusal → Paper
+payload_told (Ok p) = gives (p.payload_at ∷ p.options_at ∷ payload_kind_number p.kind ∷ [])
+payload_told (Err r) = refusal r

@@ -6,23 +6,23 @@ ghost use Rattle.wire.specs.Wire.{bytes32};
 ghost use Rattle.icmpv6_type.specs.Value.{type_told, type_of, kind_number, type_number, code_number, field_bytes};
 ghost use Rattle.icmpv6_type.specs.Reserved.{keeping};
 
-use icmpv6_codes::dest_unreachable_code::{DestUnreachableCode, DestUnreachableListing};
-use icmpv6_codes::parameter_problem_code::{ParameterProblemCode, ParameterProblemListing};
-use icmpv6_codes::time_exceeded_code::{TimeExceededCode, TimeExceededListing};
+use icmpv6_codes::dest_unreachable_code::DestUnreachableCode;
+use icmpv6_codes::parameter_problem_code::ParameterProblemCode;
+use icmpv6_codes::time_exceeded_code::TimeExceededCode;
 use icmpv6_headers::icmp_echo_header::IcmpEchoHeader;
 use icmpv6_headers::neighbor_advertisement_header::NeighborAdvertisementHeader;
 use icmpv6_headers::router_advertisement_header::RouterAdvertisementHeader;
 use message_table::types;
 
 // A parameter problem: its code, and the place of the error in the packet that caused it.
-#[derive(Clone, Copy)]
+#[derive(Clone, Copy, Debug, PartialEq, Eq)]
 pub struct ParameterProblemHeader {
     pub code: ParameterProblemCode,
     pub pointer: u32,
 }
 
 // Unknown keeps type, code and bytes 4 to 7, these as one number, high byte first.
-#[derive(Clone, Copy)]
+#[derive(Clone, Copy, Debug, PartialEq, Eq)]
 pub enum Icmpv6Type {
     Unknown {
         type_u8: u8,
@@ -50,7 +50,7 @@ impl Icmpv6Type {
     pub fn from_parts(type_u8: u8, code_u8: u8, bytes5to8: [u8; 4]) -> Icmpv6Type
         ensures { type_told result ≡ type_of type_u8 code_u8 bytes5to8 }
     {
-        let all = wire::u32_from_be(bytes5to8[0], bytes5to8[1], bytes5to8[2], bytes5to8[3]);
+        let all = u32::from_be_bytes(bytes5to8);
         let other = Icmpv6Type::Unknown {
             type_u8,
             code_u8,
@@ -60,35 +60,38 @@ impl Icmpv6Type {
             return other;
         }
         match type_u8 {
-            1 => match DestUnreachableCode::from_u8(code_u8) {
-                DestUnreachableListing::Listed(code) => Icmpv6Type::DestinationUnreachable(code),
+            types::TYPE_DST_UNREACH => match DestUnreachableCode::from_u8(code_u8) {
+                Some(code) => Icmpv6Type::DestinationUnreachable(code),
                 // Never: the table has no other code of this type.
-                DestUnreachableListing::NotListed => other,
+                None => other,
             },
-            2 => Icmpv6Type::PacketTooBig { mtu: all },
-            3 => match TimeExceededCode::from_u8(code_u8) {
-                TimeExceededListing::Listed(code) => Icmpv6Type::TimeExceeded(code),
+            types::TYPE_PACKET_TOO_BIG => Icmpv6Type::PacketTooBig { mtu: all },
+            types::TYPE_TIME_EXCEEDED => match TimeExceededCode::from_u8(code_u8) {
+                Some(code) => Icmpv6Type::TimeExceeded(code),
                 // Never: the table has no other code of this type.
-                TimeExceededListing::NotListed => other,
+                None => other,
             },
-            4 => match ParameterProblemCode::from_u8(code_u8) {
-                ParameterProblemListing::Listed(code) => Icmpv6Type::ParameterProblem(
-                    ParameterProblemHeader { code, pointer: all },
-                ),
+            types::TYPE_PARAMETER_PROBLEM => match ParameterProblemCode::from_u8(code_u8) {
+                Some(code) => Icmpv6Type::ParameterProblem(ParameterProblemHeader {
+                    code,
+                    pointer: all,
+                }),
                 // Never: the table has no other code of this type.
-                ParameterProblemListing::NotListed => other,
+                None => other,
             },
-            128 => Icmpv6Type::EchoRequest(IcmpEchoHeader::from_bytes(bytes5to8)),
-            129 => Icmpv6Type::EchoReply(IcmpEchoHeader::from_bytes(bytes5to8)),
-            133 => Icmpv6Type::RouterSolicitation,
-            134 => Icmpv6Type::RouterAdvertisement(RouterAdvertisementHeader::from_bytes(
+            types::TYPE_ECHO_REQUEST => Icmpv6Type::EchoRequest(IcmpEchoHeader::from_bytes(
                 bytes5to8,
             )),
-            135 => Icmpv6Type::NeighborSolicitation,
-            136 => Icmpv6Type::NeighborAdvertisement(NeighborAdvertisementHeader::from_bytes(
-                bytes5to8,
-            )),
-            137 => Icmpv6Type::Redirect,
+            types::TYPE_ECHO_REPLY => Icmpv6Type::EchoReply(IcmpEchoHeader::from_bytes(bytes5to8)),
+            types::TYPE_ROUTER_SOLICITATION => Icmpv6Type::RouterSolicitation,
+            types::TYPE_ROUTER_ADVERTISEMENT => Icmpv6Type::RouterAdvertisement(
+                RouterAdvertisementHeader::from_bytes(bytes5to8),
+            ),
+            types::TYPE_NEIGHBOR_SOLICITATION => Icmpv6Type::NeighborSolicitation,
+            types::TYPE_NEIGHBOR_ADVERTISEMENT => Icmpv6Type::NeighborAdvertisement(
+                NeighborAdvertisementHeader::from_bytes(bytes5to8),
+            ),
+            types::TYPE_REDIRECT_MESSAGE => Icmpv6Type::Redirect,
             // Never: the table has no other type.
             _ => other,
         }
@@ -99,13 +102,9 @@ impl Icmpv6Type {
         ensures { result ≡ type_number self }
     {
         match self {
-            Icmpv6Type::Unknown {
-                type_u8,
-                code_u8: _,
-                bytes5to8: _,
-            } => type_u8,
+            Icmpv6Type::Unknown { type_u8, .. } => type_u8,
             Icmpv6Type::DestinationUnreachable(_) => types::TYPE_DST_UNREACH,
-            Icmpv6Type::PacketTooBig { mtu: _ } => types::TYPE_PACKET_TOO_BIG,
+            Icmpv6Type::PacketTooBig { .. } => types::TYPE_PACKET_TOO_BIG,
             Icmpv6Type::TimeExceeded(_) => types::TYPE_TIME_EXCEEDED,
             Icmpv6Type::ParameterProblem(_) => types::TYPE_PARAMETER_PROBLEM,
             Icmpv6Type::EchoRequest(_) => types::TYPE_ECHO_REQUEST,
@@ -123,11 +122,7 @@ impl Icmpv6Type {
         ensures { result ≡ kind_number self }
     {
         match self {
-            Icmpv6Type::Unknown {
-                type_u8: _,
-                code_u8: _,
-                bytes5to8: _,
-            } => 0,
+            Icmpv6Type::Unknown { .. } => 0,
             _ => self.type_u8(),
         }
     }
@@ -137,25 +132,18 @@ impl Icmpv6Type {
         ensures { result ≡ code_number self }
     {
         match self {
-            Icmpv6Type::Unknown {
-                type_u8: _,
-                code_u8,
-                bytes5to8: _,
-            } => code_u8,
+            Icmpv6Type::Unknown { code_u8, .. } => code_u8,
             Icmpv6Type::DestinationUnreachable(code) => code.code_u8(),
             Icmpv6Type::TimeExceeded(code) => code.code_u8(),
-            Icmpv6Type::ParameterProblem(header) => {
-                let code = header.code;
-                code.code_u8()
-            }
-            Icmpv6Type::PacketTooBig { mtu: _ } => 0,
-            Icmpv6Type::EchoRequest(_) => 0,
-            Icmpv6Type::EchoReply(_) => 0,
-            Icmpv6Type::RouterSolicitation => 0,
-            Icmpv6Type::RouterAdvertisement(_) => 0,
-            Icmpv6Type::NeighborSolicitation => 0,
-            Icmpv6Type::NeighborAdvertisement(_) => 0,
-            Icmpv6Type::Redirect => 0,
+            Icmpv6Type::ParameterProblem(header) => header.code.code_u8(),
+            Icmpv6Type::EchoRequest(_)
+            | Icmpv6Type::EchoReply(_)
+            | Icmpv6Type::RouterSolicitation
+            | Icmpv6Type::RouterAdvertisement(_)
+            | Icmpv6Type::NeighborSolicitation
+            | Icmpv6Type::NeighborAdvertisement(_)
+            | Icmpv6Type::Redirect
+            | Icmpv6Type::PacketTooBig { .. } => 0,
         }
     }
 
@@ -164,22 +152,17 @@ impl Icmpv6Type {
         ensures { result ≡ field_bytes self }
     {
         match self {
-            Icmpv6Type::Unknown {
-                type_u8: _,
-                code_u8: _,
-                bytes5to8,
-            } => wire::u32_to_be(bytes5to8),
-            Icmpv6Type::PacketTooBig { mtu } => wire::u32_to_be(mtu),
-            Icmpv6Type::ParameterProblem(header) => wire::u32_to_be(header.pointer),
-            Icmpv6Type::EchoRequest(echo) => echo.to_bytes(),
-            Icmpv6Type::EchoReply(echo) => echo.to_bytes(),
+            Icmpv6Type::Unknown { bytes5to8, .. } => bytes5to8.to_be_bytes(),
+            Icmpv6Type::PacketTooBig { mtu } => mtu.to_be_bytes(),
+            Icmpv6Type::ParameterProblem(header) => header.pointer.to_be_bytes(),
+            Icmpv6Type::EchoRequest(echo) | Icmpv6Type::EchoReply(echo) => echo.to_bytes(),
             Icmpv6Type::RouterAdvertisement(header) => header.to_bytes(),
             Icmpv6Type::NeighborAdvertisement(header) => header.to_bytes(),
-            Icmpv6Type::DestinationUnreachable(_) => [0, 0, 0, 0],
-            Icmpv6Type::TimeExceeded(_) => [0, 0, 0, 0],
-            Icmpv6Type::RouterSolicitation => [0, 0, 0, 0],
-            Icmpv6Type::NeighborSolicitation => [0, 0, 0, 0],
-            Icmpv6Type::Redirect => [0, 0, 0, 0],
+            Icmpv6Type::DestinationUnreachable(_)
+            | Icmpv6Type::TimeExceeded(_)
+            | Icmpv6Type::RouterSolicitation
+            | Icmpv6Type::NeighborSolicitation
+            | Icmpv6Type::Redirect => [0, 0, 0, 0],
         }
     }
 
@@ -188,17 +171,21 @@ impl Icmpv6Type {
         ensures { result ≡ keeping self (bytes32 kept) }
     {
         let f = self.bytes5to8();
-        let k = wire::u32_to_be(kept);
+        let k = kept.to_be_bytes();
         match self {
-            Icmpv6Type::DestinationUnreachable(_) => k,
-            Icmpv6Type::TimeExceeded(_) => k,
-            Icmpv6Type::RouterSolicitation => k,
-            Icmpv6Type::NeighborSolicitation => k,
-            Icmpv6Type::Redirect => k,
+            Icmpv6Type::DestinationUnreachable(_)
+            | Icmpv6Type::TimeExceeded(_)
+            | Icmpv6Type::RouterSolicitation
+            | Icmpv6Type::NeighborSolicitation
+            | Icmpv6Type::Redirect => k,
             Icmpv6Type::RouterAdvertisement(_) => [f[0], f[1] + k[1] % 64, f[2], f[3]],
             Icmpv6Type::NeighborAdvertisement(_) => [f[0] + k[0] % 32, k[1], k[2], k[3]],
-            // All other values name every bit.
-            _ => f,
+            // These name every bit.
+            Icmpv6Type::Unknown { .. }
+            | Icmpv6Type::PacketTooBig { .. }
+            | Icmpv6Type::ParameterProblem(_)
+            | Icmpv6Type::EchoRequest(_)
+            | Icmpv6Type::EchoReply(_) => f,
         }
     }
 }

@@ -9,13 +9,14 @@ ghost use Rattle.ndp_options.specs.declared.Edition.TheVariants.{First};
 ghost use Rattle.capture.specs.Record.{longest};
 ghost use Rattle.dump_lines.specs.Line.{text};
 ghost use Rattle.message_table.specs.Table.{is_ndp};
+ghost use Rattle.receive_rules.specs.Reasons.{reason_told};
 ghost use Rattle.listing.specs.Packet.{walk_text, packet_text, record_text, walk_room, options_room, packet_room, room, Puts, put_leaves};
 
+use addresses::Addresses;
 use capture::MAX_PACKET_LEN;
 use dump_lines::{LONGEST, Line};
-use icmpv6_payload_slice::PayloadRead;
 use ndp_options::{Cursor, Edition, Step};
-use output::Written;
+use receive_rules::Reason;
 use refusal::Refusal;
 
 // The longest text of a record, in bytes: three lines, and those of the options. The line of an option has at most 31 bytes, the option at least eight: four
@@ -29,40 +30,21 @@ pub fn put_record(
     number: u64,
     place: u64,
     hop_limit: u8,
-    source: &[u8; 16],
-    destination: &[u8; 16],
+    addresses: Addresses,
     packet: &[u8],
-) -> Written
-    ensures answers { Puts (written_told result) packet.now (record_text number place hop_limit source.now destination.now packet.now) out.old at }
-    ensures lent { out.new ≡ put_leaves packet.now (record_text number place hop_limit source.now destination.now packet.now) out.old at }
+) -> Result<usize, Refusal>
+    ensures answers { Puts (written_told result) packet.now (record_text number place hop_limit addresses.source addresses.destination packet.now) out.old at }
+    ensures lent { out.new ≡ put_leaves packet.now (record_text number place hop_limit addresses.source addresses.destination packet.now) out.old at }
 {
     let len = packet.len();
     if MAX_PACKET_LEN < len {
-        return Written::Refused(Refusal::LongRecord { length: len });
+        return Err(Refusal::LongRecord { length: len });
     }
     if ROOM <= output::room(out, at) {
-        return Written::To(put_text(
-            out,
-            at,
-            number,
-            place,
-            hop_limit,
-            source,
-            destination,
-            packet,
-        ));
+        return Ok(put_text(out, at, number, place, hop_limit, addresses, packet));
     }
     let mut own = [0u8; ROOM];
-    let n = put_text(
-        &mut own,
-        0,
-        number,
-        place,
-        hop_limit,
-        source,
-        destination,
-        packet,
-    );
+    let n = put_text(&mut own, 0, number, place, hop_limit, addresses, packet);
     output::put(out, at, &own[..n])
 }
 
@@ -73,41 +55,38 @@ fn put_text(
     number: u64,
     place: u64,
     hop_limit: u8,
-    source: &[u8; 16],
-    destination: &[u8; 16],
+    addresses: Addresses,
     packet: &[u8],
 ) -> usize
     requires { (at + room ≤ length out.old) × (length packet.now ≤ longest) }
-    ensures wrote { Wrote out.old at (record_text number place hop_limit source.now destination.now packet.now) out.new result }
+    ensures wrote { Wrote out.old at (record_text number place hop_limit addresses.source addresses.destination packet.now) out.new result }
     ensures short { result ≤ at + room }
 {
     let next = put_line(out, at, Line::Record { number, place });
-    put_packet(out, next, hop_limit, source, destination, packet)
+    put_packet(out, next, hop_limit, addresses, packet)
 }
 
 fn put_packet(
     out: &mut [u8],
     at: usize,
     hop_limit: u8,
-    source: &[u8; 16],
-    destination: &[u8; 16],
+    addresses: Addresses,
     packet: &[u8],
 ) -> usize
     requires { (at + packet_room ≤ length out.old) × (length packet.now ≤ longest) }
-    ensures wrote { Wrote out.old at (packet_text hop_limit source.now destination.now packet.now) out.new result }
+    ensures wrote { Wrote out.old at (packet_text hop_limit addresses.source addresses.destination packet.now) out.new result }
     ensures short { result ≤ at + packet_room }
 {
-    let judged = receive::judge(packet, hop_limit, source, destination, Edition::First);
-    let opened = judged.opened;
-    match opened {
-        PayloadRead::Payload(message) => {
-            let kind = message.kind;
-            let kind_u8 = kind.type_u8();
+    let judged = receive::judge(packet, hop_limit, addresses, Edition::First);
+    match judged.opened {
+        Ok(message) => {
+            let kind_u8 = message.kind.type_u8();
             let next = put_head(out, at, kind_u8, packet, judged.valid, judged.reason);
             put_options(out, next, kind_u8, packet, message.options_at)
         }
-        PayloadRead::Refused(why) => {
+        Err(why) => {
             let number = why.number();
+            // By its number, of which the promise speaks.
             if number != 4 {
                 return put_line(out, at, Line::Refused { number });
             }
@@ -119,18 +98,25 @@ fn put_packet(
 }
 
 // The line of a packet's head, whose kind, verdict and reason are given.
-fn put_head(out: &mut [u8], at: usize, kind: u8, packet: &[u8], ok: bool, reason: u8) -> usize
+fn put_head(
+    out: &mut [u8],
+    at: usize,
+    kind: u8,
+    packet: &[u8],
+    ok: bool,
+    reason: Option<Reason>,
+) -> usize
     requires { (at + 128 ≤ length out.old) × (8 ≤ length packet.now) × (length packet.now ≤ longest) }
-    ensures wrote { Wrote out.old at (text (Line.Head kind (get_or packet.now 1 0) (word16_at packet.now 2) ok (length packet.now) reason)) out.new result }
+    ensures wrote { Wrote out.old at (text (Line.Head kind (get_or packet.now 1 0) (word16_at packet.now 2) ok (length packet.now) (reason_told reason))) out.new result }
     ensures short { result ≤ at + 128 }
 {
     let line = Line::Head {
         kind,
         code: packet[1],
-        sum: wire::u16_from_be(packet[2], packet[3]),
+        sum: u16::from_be_bytes([packet[2], packet[3]]),
         ok,
         len: packet.len() as u64,
-        recv: reason as u64,
+        recv: u64::from(reason.map_or(0, Reason::number)),
     };
     put_line(out, at, line)
 }
@@ -142,12 +128,14 @@ fn put_options(out: &mut [u8], at: usize, kind: u8, packet: &[u8], from: usize) 
     ensures short { result ≤ at + options_room }
 {
     if message_table::is_ndp(kind) {
-        return put_walk(out, at, &packet[from..], from);
+        put_walk(out, at, &packet[from..], from)
+    } else {
+        at
     }
-    at
 }
 
-// A line for each option, and the ending of the walk. The first byte of the options is at an offset of the packet.
+// A line for each option, and the ending of the walk. The first byte of the options is at an offset of the packet. By steps, and not by a walker's
+// options: the line of a refusal has its place.
 fn put_walk(out: &mut [u8], at: usize, options: &[u8], offset: usize) -> usize
     requires { (at + walk_room (length options.now) ≤ length out.old) × (offset + length options.now ≤ longest) }
     ensures wrote { Wrote out.old at (walk_text 0 (walk_from First offset options.now)) out.new result }
@@ -160,14 +148,13 @@ fn put_walk(out: &mut [u8], at: usize, options: &[u8], offset: usize) -> usize
         let here = c.at;
         match c.step(options, offset, Edition::First) {
             Step::Handed(option, next) => {
-                let id = option.option_type;
                 let line = Line::Opt {
                     place: option.place as u64,
-                    kind: id.0,
+                    kind: option.option_type.0,
                     bytes: option.len as u64,
                 };
                 put = put_line(out, put, line);
-                n = n + 1;
+                n += 1;
                 c = next;
             }
             Step::End => return put_line(out, put, Line::End { number: n }),
@@ -184,15 +171,12 @@ fn put_walk(out: &mut [u8], at: usize, options: &[u8], offset: usize) -> usize
     }
 }
 
-// A line where there is room for the longest.
+// A line where there is room for the longest: the lines of the dump. (`diff` has its own, over its own lines.)
 fn put_line(out: &mut [u8], at: usize, line: Line) -> usize
     requires { at + 128 ≤ length out.old }
     ensures wrote { Wrote out.old at (text line) out.new result }
     ensures short { result ≤ at + 128 }
 {
-    match dump_lines::put_line(out, at, line) {
-        Written::To(n) => n,
-        // Never: there is room.
-        Written::Refused(_) => at,
-    }
+    // Never refused: there is room.
+    dump_lines::put_line(out, at, line).unwrap_or(at)
 }

@@ -2,12 +2,12 @@
 #![tactic(auto)]
 
 ghost use Rattle.std.specs.Prelude.{◌≡◌};
-ghost use Rattle.message_table.specs.Table.{rows, row_of, known, fixed_len, is_ndp};
+ghost use Rattle.message_table.specs.Table.{row_of, known, fixed_len, is_ndp};
 
 pub mod types;
 
-// A known type, how many codes it has (listed from 0 on), and the bytes of its fixed part behind the head.
-#[derive(Clone, Copy)]
+// A known type (the byte of the wire, which any caller may ask), how many codes it has (listed from 0 on), and the bytes of its fixed part behind the head.
+#[derive(Clone, Copy, Debug, PartialEq, Eq)]
 pub struct Row {
     pub kind: u8,
     pub codes: u8,
@@ -73,17 +73,15 @@ pub const ROWS: [Row; 11] = [
 ];
 
 // The row of a type. A type that the table does not have gets a row without codes and without a fixed part.
-fn row_of(kind: u8) -> Row
-    ensures { result ≡ row_of rows kind }
+// A function of its own in compiled code: written into each caller it takes a packet's writer over 4 KiB.
+#[inline(never)]
+fn row_of(rows: &[Row], kind: u8) -> Row
+    ensures { result ≡ row_of rows.now kind }
 {
-    let rows = ROWS;
-    let mut i: usize = 0;
-    while i < 11 {
-        let row = rows[i];
+    for row in rows {
         if row.kind == kind {
-            return row;
+            return *row;
         }
-        i = i + 1;
     }
     Row {
         kind,
@@ -97,8 +95,7 @@ fn row_of(kind: u8) -> Row
 pub fn is_known(kind: u8, code: u8) -> bool
     ensures { result ≡ known kind code }
 {
-    let row = row_of(kind);
-    code < row.codes
+    code < row_of(&ROWS, kind).codes
 }
 
 // The length of a type's fixed part, whatever the code; 0 if the table does not have the type.
@@ -106,16 +103,12 @@ pub fn is_known(kind: u8, code: u8) -> bool
 pub fn fixed_len(kind: u8) -> usize
     ensures { result ≡ fixed_len kind }
 {
-    let listed = row_of(kind);
-    listed.fixed
+    row_of(&ROWS, kind).fixed
 }
 
-// Whether a type is one of Neighbor Discovery.
+// Whether a type is one of Neighbor Discovery: their numbers stand in a row.
 pub fn is_ndp(kind: u8) -> bool
     ensures { result ≡ is_ndp kind }
 {
-    if kind < 133 {
-        return false;
-    }
-    kind <= 137
+    matches!(kind, 133..=137)
 }

@@ -4,7 +4,7 @@
 ghost use Rattle.std.specs.Prelude.{◌≡◌};
 ghost use Rattle.ndp_option_read.specs.Rule.{read_told, part_from};
 
-use ndp_option_read::NdpOptionRead;
+use refusal::Refusal;
 
 pub mod link_layer_address_option;
 pub mod mtu_option;
@@ -12,18 +12,11 @@ pub mod redirected_header_option;
 pub mod unknown_option;
 
 // The bytes of an option from a place on; none if the option is refused.
-fn part(read: NdpOptionRead, slice: &[u8], from: usize) -> &[u8]
+fn part(read: Result<usize, Refusal>, slice: &[u8], from: usize) -> &[u8]
     ensures { result.now ≡ part_from from (read_told read) slice.now }
 {
     match read {
-        NdpOptionRead::Accepted(_) => {
-            if from <= slice.len() {
-                &slice[from..]
-            } else {
-                // Never: an option that is accepted has eight bytes, and no part begins behind them.
-                &slice[..0]
-            }
-        }
-        NdpOptionRead::Refused(_) => &slice[..0],
+        Ok(_) if from <= slice.len() => &slice[from..],
+        _ => &slice[..0],
     }
 }

@@ -5,11 +5,10 @@ ghost use Rattle.packet_place.specs.Place.{placed};
 ghost use Rattle.ndp_option_read.specs.Rule.{read_told, sized_of, part_from};
 ghost use Rattle.ndp_option.specs.LinkLayer.{link_layer_type, link_layer_of};
 
-use ndp_option_read::NdpOptionRead;
-use refusal::NdpOptionType;
+use refusal::{NdpOptionType, Refusal};
 
 // Whose address it is.
-#[derive(Clone, Copy)]
+#[derive(Clone, Copy, Debug, PartialEq, Eq)]
 pub enum LinkLayerAddressOption {
     Source,
     Target,
@@ -35,7 +34,7 @@ impl LinkLayerAddressOption {
         }
     }
 
-    pub fn from_slice(self, slice: &[u8], offset: usize) -> NdpOptionRead
+    pub fn from_slice(self, slice: &[u8], offset: usize) -> Result<usize, Refusal>
         ensures { read_told result ≡ placed offset slice.now (sized_of (link_layer_type self) slice.now) }
     {
         ndp_option_read::sized(self.option_type(), slice, offset)

@@ -4,14 +4,13 @@ ghost use Rattle.std.specs.Prelude.{◌≡◌};
 ghost use Rattle.packet_place.specs.Place.{placed};
 ghost use Rattle.ndp_option_read.specs.Rule.{read_told, sized_of, part_from};
 
-use ndp_option_read::NdpOptionRead;
-use refusal::NdpOptionType;
+use refusal::{NdpOptionType, Refusal};
 
 const REDIRECTED_HEADER: NdpOptionType = NdpOptionType(4);
 
 const FIXED_PART_LEN: usize = 8;
 
-pub fn from_slice(slice: &[u8], offset: usize) -> NdpOptionRead
+pub fn from_slice(slice: &[u8], offset: usize) -> Result<usize, Refusal>
     ensures { read_told result ≡ placed offset slice.now (sized_of 4 slice.now) }
 {
     ndp_option_read::sized(REDIRECTED_HEADER, slice, offset)

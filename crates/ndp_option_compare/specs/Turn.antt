@@ -1,7 +1,7 @@
 -- What the private functions promise of lists that walk clean: what stands at a place of one, and the entry of what stands at two.
 -- Assumes nothing.
-use Rattle.std.specs.Prelude.{ℕ, ◌+◌, ◌*◌, ◌≤◌, ◌<◌, ◌≡◌, cond, List, [], ◌∷◌, eqb, ltb, length, take, drop}
-use Rattle.paper.specs.Paper.{Paper, gives, value}
+use Rattle.std.specs.Prelude.{ℕ, ◌+◌, ◌*◌, ◌≤◌, ◌<◌, ◌≡◌, cond, List, [], ◌∷◌, eqb, ltb, length, take, drop, Result, Ok, Err}
+use Rattle.paper.specs.Paper.{gives, value}
 use Rattle.packet_length.specs.Length.{limit}
 use Rattle.ndp_walk.specs.Walk.{Clean}
 use Rattle.ndp_walk.specs.Laws.{concat}
@@ -10,9 +10,8 @@ use Rattle.ndp_options.specs.declared.Edition.{Edition}
 use Rattle.ndp_option_list.specs.Whole.{count_of}
 use Rattle.ndp_option_compare.specs.Entry.{entry_of, longer, leading}
 use Rattle.ndp_option_compare.specs.Compare.{Told, told, refused_or, options_of, report_of}
-use Rattle.ndp_option_compare.specs.declared.Counts.{Counts}
-use Rattle.ndp_option_compare.specs.declared.Counts.TheVariants.{Both, Refused}
-use Rattle.refusal.specs.Paper.{refusal}
+use Rattle.ndp_option_compare.specs.Told.{error_told}
+use Rattle.ndp_option_compare.specs.declared.CompareError.{CompareError}
 
 -- a place of a list from which the walk is clean
 pub record Cleanly (e : Edition) (s : List ℕ) (at : ℕ) : Type 0 where
@@ -45,9 +44,9 @@ counts_of e o s p t =
     (refused_or 2 (count_of e p t)
     (told (gives (value 0 (count_of e o s) ∷ value 0 (count_of e p t) ∷ [])) 0))
 
-abbrev pub counts_told : Counts → Told
-counts_told (Both n m) = told (gives (n ∷ m ∷ [])) 0
-counts_told (Refused list why) = told (refusal why) list
+abbrev pub counts_told : Result (ℕ × ℕ) CompareError → Told
+counts_told (Ok (n, m)) = told (gives (n ∷ m ∷ [])) 0
+counts_told (Err e) = error_told e
 
 -- the smaller of two numbers, and 1 where they differ
 abbrev pub lesser : ℕ → ℕ → ℕ

@@ -6,43 +6,38 @@ ghost use Rattle.packet_length.specs.Length.{limit};
 ghost use Rattle.output.specs.Output.{over};
 ghost use Rattle.ndp_option_compare.specs.Entry.{agree as entry_agree, entry_of};
 ghost use Rattle.ndp_option_compare.specs.Compare.{numbers_of, compared_of, report_after, is_whole, common_of};
-ghost use Rattle.ndp_option_compare.specs.Turn.{Cleanly, Stands, Ready, entry_at, counts_of, counts_told, lesser, one_more, Shared};
+ghost use Rattle.ndp_option_compare.specs.Turn.{Cleanly, Stands, Ready, entry_at, counts_of, counts_told, Shared};
 ghost use Rattle.ndp_option_compare.specs.Told.{compared_told};
 
-use ndp_option_list::Counted;
 use ndp_options::{Cursor, Edition, Step};
 use refusal::Refusal;
 
-// How many entries were written; or why none was, and the list that was refused: 1 the first, 2 the second, 0 if the report is too short.
-#[derive(Clone, Copy)]
-pub enum Compared {
-    Entries(usize),
-    Refused(u8, Refusal),
-}
-
-// How many options each list has; or the list that is refused, and why.
-#[derive(Clone, Copy)]
-enum Counts {
-    Both(usize, usize),
-    Refused(u8, Refusal),
+// Why no report was written: a list is refused, or the report is too short.
+#[derive(Clone, Copy, Debug, PartialEq, Eq)]
+pub enum CompareError {
+    First(Refusal),
+    Second(Refusal),
+    Report(Refusal),
 }
 
 // The numbers of an entry.
 const ENTRY_LEN: usize = 5;
 
 // How many leading bytes of two options agree.
+#[tactic(auto, using(crate::proofs::Alike::over_left, crate::proofs::Alike::goes_on, crate::proofs::Alike::stops), unfolding(crate::specs::Entry::agree))]
 fn agree(a: &[u8], b: &[u8]) -> usize
     requires { length a.now ≡ length b.now }
     ensures { result ≡ entry_agree a.now b.now }
 {
-    let mut i: usize = 0;
-    while i < a.len() {
-        if a[i] != b[i] {
-            return i;
+    // Counted beside: of `take_while(..).count()` the goal stayed open.
+    let mut n = 0;
+    for (x, y) in a.iter().zip(b) {
+        if x != y {
+            return n;
         }
-        i = i + 1;
+        n += 1;
     }
-    i
+    n
 }
 
 // The entry of two options at their places in the packets.
@@ -52,8 +47,8 @@ fn entry(a: &[u8], p: usize, b: &[u8], q: usize) -> [u32; 5]
 {
     let here = p as u32;
     let there = q as u32;
-    let kind = a[0] as u32;
-    let other = b[0] as u32;
+    let kind = u32::from(a[0]);
+    let other = u32::from(b[0]);
     let size = a.len() as u32;
     let bytes = b.len() as u32;
     if kind != other {
@@ -66,7 +61,13 @@ fn entry(a: &[u8], p: usize, b: &[u8], q: usize) -> [u32; 5]
     if k == a.len() {
         return [0, here, there, kind, size];
     }
-    [3, (p + k) as u32, (q + k) as u32, a[k] as u32, b[k] as u32]
+    [
+        3,
+        (p + k) as u32,
+        (q + k) as u32,
+        u32::from(a[k]),
+        u32::from(b[k]),
+    ]
 }
 
 // The entry of what two rests begin with, at their places in the packets: options of `n` and `m` bytes, 0 where a list is over.
@@ -88,13 +89,12 @@ fn length_at(options: &[u8], at: usize, edition: Edition) -> usize
     requires { Cleanly edition options.now at }
     ensures { Stands edition options.now at result }
 {
-    let cursor = Cursor { at };
-    match cursor.step(options, 0, edition) {
+    match (Cursor { at }).step(options, 0, edition) {
         Step::Handed(option, _) => option.len,
         Step::End => 0,
-        // Never: the walk is clean, and its places are within the bytes.
-        Step::Refused(_, _) => 0,
-        Step::Stopped => 0,
+        // The walk is clean, and its places are within the bytes.
+        Step::Refused(_, _) => unreachable!(),
+        Step::Stopped => unreachable!(),
     }
 }
 
@@ -111,49 +111,32 @@ fn write_report(
     requires { Ready edition first_at first.now second_at second.now entries (length report.old) }
     ensures { report.new ≡ over report.old 0 (numbers_of edition first_at first.now second_at second.now) }
 {
-    let mut a: usize = 0;
-    let mut b: usize = 0;
-    let mut k: usize = 0;
-    while k < entries {
+    let mut a = 0;
+    let mut b = 0;
+    for k in 0..entries {
         let n = length_at(first, a, edition);
         let m = length_at(second, b, edition);
         let numbers = entry_at(&first[a..], first_at + a, n, &second[b..], second_at + b, m);
-        output::put_numbers(report, k * ENTRY_LEN, &numbers);
-        a = a + n;
-        b = b + m;
-        k = k + 1;
+        // It fits: the report has room for all entries.
+        let _ = output::put_numbers(report, k * ENTRY_LEN, &numbers);
+        a += n;
+        b += m;
     }
 }
 
+// How many options each list has.
 fn count_both(
     first: &[u8],
     first_at: usize,
     second: &[u8],
     second_at: usize,
     edition: Edition,
-) -> Counts
+) -> Result<(usize, usize), CompareError>
     ensures { counts_told result ≡ counts_of edition first_at first.now second_at second.now }
 {
-    match ndp_option_list::count(first, first_at, edition) {
-        Counted::Refused(why) => Counts::Refused(1, why),
-        Counted::All(n) => match ndp_option_list::count(second, second_at, edition) {
-            Counted::Refused(why) => Counts::Refused(2, why),
-            Counted::All(m) => Counts::Both(n, m),
-        },
-    }
-}
-
-fn lesser(n: usize, m: usize) -> usize
-    ensures { result ≡ lesser n m }
-{
-    if n < m { n } else { m }
-}
-
-// An entry more where one list is longer.
-fn one_more(n: usize, m: usize) -> usize
-    ensures { result ≡ one_more n m }
-{
-    if n == m { 0 } else { 1 }
+    let n = ndp_option_list::count(first, first_at, edition).map_err(CompareError::First)?;
+    let m = ndp_option_list::count(second, second_at, edition).map_err(CompareError::Second)?;
+    Ok((n, m))
 }
 
 // Writes what differs between two lists to the start of a lent report: an entry of five numbers for each pair of options, and one more if one list is
@@ -165,33 +148,27 @@ pub fn compare(
     second_at: usize,
     report: &mut [u32],
     edition: Edition,
-) -> Compared
+) -> Result<usize, CompareError>
     ensures answers { compared_told result ≡ compared_of edition first_at first.now second_at second.now report.old }
     ensures lent { report.new ≡ report_after edition first_at first.now second_at second.now report.old }
 {
-    match count_both(first, first_at, second, second_at, edition) {
-        Counts::Refused(list, why) => Compared::Refused(list, why),
-        Counts::Both(n, m) => {
-            let pairs = lesser(n, m);
-            let entries = pairs + one_more(n, m);
-            let numbers = entries * ENTRY_LEN;
-            if report.len() < numbers {
-                let needed = numbers * 4;
-                return Compared::Refused(0, Refusal::ShortOutput { needed });
-            }
-            write_report(first, first_at, second, second_at, report, entries, edition);
-            Compared::Entries(entries)
-        }
+    let (n, m) = count_both(first, first_at, second, second_at, edition)?;
+    // An entry more where one list is longer.
+    let entries = n.min(m) + usize::from(n != m);
+    let numbers = entries * ENTRY_LEN;
+    if report.len() < numbers {
+        return Err(CompareError::Report(Refusal::ShortOutput {
+            needed: numbers * 4,
+        }));
     }
+    write_report(first, first_at, second, second_at, report, entries, edition);
+    Ok(entries)
 }
 
 fn is_whole(options: &[u8], edition: Edition) -> bool
     ensures { result ≡ is_whole edition options.now }
 {
-    match ndp_option_list::count(options, 0, edition) {
-        Counted::All(_) => true,
-        Counted::Refused(_) => false,
-    }
+    ndp_option_list::count(options, 0, edition).is_ok()
 }
 
 // How many bytes the options have with which two lists begin alike that walk clean.
@@ -199,7 +176,8 @@ fn common_len(first: &[u8], second: &[u8], edition: Edition) -> usize
     requires { Cleanly edition first.now 0 × Cleanly edition second.now 0 }
     ensures { Shared edition first.now second.now result }
 {
-    let mut at: usize = 0;
+    let mut at = 0;
+    // By places: each option begins where the one before it ends, in both lists.
     loop {
         let n = length_at(first, at, edition);
         let m = length_at(second, at, edition);

@@ -10,17 +10,10 @@ use refusal::{LengthUnits, NdpOptionType, Refusal};
 
 pub const NDP_OPTION_HEADER_LEN: usize = 2;
 
-#[derive(Clone, Copy)]
+#[derive(Clone, Copy, Debug, PartialEq, Eq)]
 pub struct NdpOptionHeader {
     pub option_type: NdpOptionType,
     pub length_units: LengthUnits,
-}
-
-// What a slice begins with, and its place in the packet.
-#[derive(Clone, Copy)]
-pub enum HeaderRead {
-    Header(NdpOptionHeader, usize),
-    Refused(Refusal),
 }
 
 impl NdpOptionHeader {
@@ -40,31 +33,29 @@ impl NdpOptionHeader {
     }
 
     // The header at the start of a slice, whose first byte is at an offset of the packet.
-    pub fn from_slice(slice: &[u8], offset: usize) -> HeaderRead
+    pub fn from_slice(slice: &[u8], offset: usize) -> Result<(NdpOptionHeader, usize), Refusal>
         ensures { option_header_told result ≡ placed offset slice.now (header_of slice.now) }
     {
         let length = slice.len();
         if packet_place::is_far(offset, length) {
-            return HeaderRead::Refused(Refusal::FarOffset);
+            return Err(Refusal::FarOffset);
         }
         if length < NDP_OPTION_HEADER_LEN {
-            let id = if length == 0 { 0 } else { slice[0] };
-            return HeaderRead::Refused(Refusal::UnexpectedSize {
-                id: NdpOptionType(id),
+            return Err(Refusal::UnexpectedSize {
+                id: NdpOptionType(slice.first().copied().unwrap_or(0)),
                 expected: NDP_OPTION_HEADER_LEN,
                 actual: length,
                 place: offset,
             });
         }
-        let header = NdpOptionHeader::from_bytes([slice[0], slice[1]]);
-        HeaderRead::Header(header, offset)
+        Ok((NdpOptionHeader::from_bytes([slice[0], slice[1]]), offset))
     }
 
     // The bytes of the whole option. Nothing else turns units into bytes.
     pub fn byte_len(self) -> usize
         ensures { result ≡ unit_bytes self.length_units.0 }
     {
-        self.length_units.0 as usize * 8
+        usize::from(self.length_units.0) * 8
     }
 }
 

@@ -1,6 +1,6 @@
 -- The entries of an index (docs/RULES.md I1): which they are of a walk's options, how they stand as numbers, and what a lookup answers of them.
 -- Assumes nothing.
-use Rattle.std.specs.Prelude.{ℕ, Bool, false, cond, List, [], ◌∷◌, map, ltb, eqb}
+use Rattle.std.specs.Prelude.{ℕ, Bool, false, cond, List, [], ◌∷◌, map, ltb, eqb, Option, None, Some}
 use Rattle.paper.specs.Paper.{Paper, gives}
 use Rattle.ndp_walk.specs.Walk.{Item}
 use Rattle.ndp_option_list.specs.Whole.{first_by}
@@ -51,6 +51,7 @@ first_in type es = place_by (of_type type) es
 abbrev pub next_in : ℕ → ℕ → List Entry → Paper
 next_in type after es = place_by (behind type after) es
 
--- which of the two is asked
-abbrev pub asked : ℕ → Bool → ℕ → Entry → Bool
-asked type all after = cond all (of_type type) (behind type after)
+-- which of the two is asked: of a type, or of a type and above a place
+abbrev pub asked : ℕ → Option ℕ → Entry → Bool
+asked type None = of_type type
+asked type (Some after) = behind type after

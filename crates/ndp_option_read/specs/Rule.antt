@@ -2,15 +2,14 @@
 -- Assumes nothing.
 use Rattle.std.specs.Prelude.{ℕ, Bool, cond, not, ◌||◌, List, [], ◌∷◌, eqb, ltb, get_or, length, drop}
 use Rattle.paper.specs.Paper.{Paper, refuses, gives}
-use Rattle.refusal.specs.Paper.{refusal}
+use Rattle.refusal.specs.Told.{told}
 use Rattle.ndp_option_header.specs.Header.{unit_bytes}
-use Rattle.ndp_option_read.specs.declared.NdpOptionRead.{NdpOptionRead}
-use Rattle.ndp_option_read.specs.declared.NdpOptionRead.TheVariants.{Accepted, Refused}
+use Rattle.std.specs.Prelude.{Result}
+use Rattle.refusal.specs.declared.Refusal.{Refusal}
 
 -- of an option that is accepted its place: what it says is read beside
-abbrev pub read_told : NdpOptionRead → Paper
-read_told (Accepted place) = gives (place ∷ [])
-read_told (Refused why) = refusal why
+abbrev pub read_told : Result ℕ Refusal → Paper
+read_told r = told (λ place. place ∷ []) r
 
 abbrev differ : ℕ → ℕ → Bool
 differ m n = not (eqb m n)

@@ -10,24 +10,27 @@ ghost use Rattle.ndp_option_read.specs.Rule.{read_told, exactly_of, sized_of};
 use ndp_option_header::NdpOptionHeader;
 use refusal::{LengthUnits, NdpOptionType, Refusal};
 
-// Whether an option passes its rule, with its place in the packet. Its contents are read by another call, or stand beside the answer.
-#[derive(Clone, Copy)]
-pub enum NdpOptionRead {
-    Accepted(usize),
-    Refused(Refusal),
-}
-
 // An option of a fixed size (docs/RULES.md O1), whose first byte is at an offset of the packet: its number of bytes, then its header.
-pub fn exactly(id: NdpOptionType, units: LengthUnits, slice: &[u8], offset: usize) -> NdpOptionRead
+pub fn exactly(
+    id: NdpOptionType,
+    units: LengthUnits,
+    slice: &[u8],
+    offset: usize,
+) -> Result<usize, Refusal>
     ensures { read_told result ≡ placed offset slice.now (exactly_of id.0 units.0 slice.now) }
 {
     if packet_place::is_far(offset, slice.len()) {
-        return NdpOptionRead::Refused(Refusal::FarOffset);
+        return Err(Refusal::FarOffset);
     }
     exactly_at(id, units, slice, offset)
 }
 
-fn exactly_at(id: NdpOptionType, units: LengthUnits, slice: &[u8], place: usize) -> NdpOptionRead
+fn exactly_at(
+    id: NdpOptionType,
+    units: LengthUnits,
+    slice: &[u8],
+    place: usize,
+) -> Result<usize, Refusal>
     ensures { read_told result ≡ with_place place (exactly_of id.0 units.0 slice.now) }
 {
     let expected = NdpOptionHeader {
@@ -37,79 +40,76 @@ fn exactly_at(id: NdpOptionType, units: LengthUnits, slice: &[u8], place: usize)
     let wanted = expected.byte_len();
     let length = slice.len();
     if length != wanted {
-        return NdpOptionRead::Refused(Refusal::UnexpectedSize {
-            id: id,
+        return Err(Refusal::UnexpectedSize {
+            id,
             expected: wanted,
             actual: length,
-            place: place,
+            place,
         });
     }
     let header = header_at(slice);
     let actual = header.option_type;
     let actual_units = header.length_units;
     if actual.0 != id.0 || actual_units.0 != units.0 {
-        return NdpOptionRead::Refused(Refusal::UnexpectedHeader {
+        return Err(Refusal::UnexpectedHeader {
             expected: id,
-            actual: actual,
+            actual,
             expected_units: units,
-            actual_units: actual_units,
-            place: place,
+            actual_units,
+            place,
         });
     }
-    NdpOptionRead::Accepted(place)
+    Ok(place)
 }
 
 // An option of any size (docs/RULES.md O2), whose first byte is at an offset of the packet: at least 8 bytes, its type, a length that is not 0, and
 // as many bytes as that says. It has no number of units to expect, so refusal 8 carries the found one twice.
-pub fn sized(id: NdpOptionType, slice: &[u8], offset: usize) -> NdpOptionRead
+pub fn sized(id: NdpOptionType, slice: &[u8], offset: usize) -> Result<usize, Refusal>
     ensures { read_told result ≡ placed offset slice.now (sized_of id.0 slice.now) }
 {
     if packet_place::is_far(offset, slice.len()) {
-        return NdpOptionRead::Refused(Refusal::FarOffset);
+        return Err(Refusal::FarOffset);
     }
     sized_at(id, slice, offset)
 }
 
-fn sized_at(id: NdpOptionType, slice: &[u8], place: usize) -> NdpOptionRead
+fn sized_at(id: NdpOptionType, slice: &[u8], place: usize) -> Result<usize, Refusal>
     ensures { read_told result ≡ with_place place (sized_of id.0 slice.now) }
 {
     let length = slice.len();
     if length < 8 {
-        return NdpOptionRead::Refused(Refusal::UnexpectedSize {
-            id: id,
+        return Err(Refusal::UnexpectedSize {
+            id,
             expected: 8,
             actual: length,
-            place: place,
+            place,
         });
     }
     let header = header_at(slice);
     let actual = header.option_type;
     let length_units = header.length_units;
     if actual.0 != id.0 {
-        return NdpOptionRead::Refused(Refusal::UnexpectedHeader {
+        return Err(Refusal::UnexpectedHeader {
             expected: id,
-            actual: actual,
+            actual,
             expected_units: length_units,
             actual_units: length_units,
-            place: place,
+            place,
         });
     }
     if length_units.0 == 0 {
-        return NdpOptionRead::Refused(Refusal::ZeroLength {
-            id: id,
-            place: place,
-        });
+        return Err(Refusal::ZeroLength { id, place });
     }
     let size = header.byte_len();
     if length != size {
-        return NdpOptionRead::Refused(Refusal::UnexpectedSize {
-            id: id,
+        return Err(Refusal::UnexpectedSize {
+            id,
             expected: size,
             actual: length,
-            place: place,
+            place,
         });
     }
-    NdpOptionRead::Accepted(place)
+    Ok(place)
 }
 
 // The header, with 0 for a byte that is not there.
@@ -119,9 +119,9 @@ fn header_at(slice: &[u8]) -> NdpOptionHeader
     NdpOptionHeader::from_bytes([byte_at(slice, 0), byte_at(slice, 1)])
 }
 
-// A byte, and 0 past the last.
+// A byte, and 0 past the last: one line of std, private in each crate that needs it.
 fn byte_at(slice: &[u8], at: usize) -> u8
     ensures { result ≡ get_or slice.now at 0 }
 {
-    if at < slice.len() { slice[at] } else { 0 }
+    slice.get(at).copied().unwrap_or(0)
 }

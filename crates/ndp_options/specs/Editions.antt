@@ -15,6 +15,10 @@ rule_by Second = second
 abbrev pub edition_of : ℕ → Edition
 edition_of n = cond (eqb n 2) Second First
 
+abbrev pub edition_number : Edition → ℕ
+edition_number First = 1
+edition_number Second = 2
+
 -- the kind that the first edition shows of a type: the types above 5 are unknown to it
 abbrev pub shown_first : ℕ → ℕ → ℕ
 shown_first type kind = cond (ltb 5 type) 0 kind

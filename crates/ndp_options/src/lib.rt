@@ -1,28 +1,30 @@
 // The option walk of Neighbor Discovery (RFC 4861, section 4.6; docs/RULES.md W1 to W6), as a cursor by value over the option bytes.
 // Port of ndp_options_iterator.rs, with the two endings of a walk told apart: `End` at the end, `Stopped` after a refusal.
+// The bytes, their offset and the edition stay three parameters: a struct that borrows bytes reads as `list.entry.bytes.now` in a contract, where
+// `options.now` says the same. Who walks by an iterator has them in one, the walker.
 #![tactic(auto)]
 
 ghost use Rattle.std.specs.Prelude.{◌≡◌, ◌/◌, ◌%◌, ◌&&◌, leb, eqb, drop, take};
 ghost use Rattle.refusal.specs.declared.Refusal.TheVariants.{UnexpectedSize};
-ghost use Rattle.ndp_walk.specs.Judge.{ruled, judge};
+ghost use Rattle.ndp_walk.specs.Judge.{judge};
 ghost use Rattle.ndp_options.specs.Rule.{rule_of, asked_of, option_kind};
-ghost use Rattle.ndp_options.specs.Newer.{asks_more, route_bytes, newer_fits, newer_kind, is_long, newer_asked};
-ghost use Rattle.ndp_options.specs.Editions.{rule_by, edition_of};
+ghost use Rattle.ndp_options.specs.Newer.{asks_more, route_bytes, newer_fits, newer_kind, is_long, newer_asked, newer_of};
+ghost use Rattle.ndp_options.specs.Editions.{rule_by, edition_of, edition_number};
 ghost use Rattle.ndp_options.specs.Walk.{step_of};
-ghost use Rattle.ndp_options.specs.Told.{option_kind_number, judged_told, judged_at, step_told};
+ghost use Rattle.ndp_options.specs.Told.{option_kind_number, ruled_told, ruled_at, judged_told, judged_at, step_told};
 
 use ndp_option_header::{NDP_OPTION_HEADER_LEN, NdpOptionHeader};
-use refusal::{NdpOptionType, Refusal};
+use refusal::{LengthUnits, NdpOptionType, Refusal};
 use router_preference::is_reserved;
 
 // Which rule of the types a walk goes by: the first knows the types of RFC 4861; the second also routes (RFC 4191) and servers (RFC 8106).
-#[derive(Clone, Copy)]
+#[derive(Clone, Copy, Debug, PartialEq, Eq)]
 pub enum Edition {
     First,
     Second,
 }
 
-#[derive(Clone, Copy)]
+#[derive(Clone, Copy, Debug, PartialEq, Eq)]
 pub enum NdpOptionKind {
     Unknown,
     SourceLinkLayerAddress,
@@ -35,7 +37,7 @@ pub enum NdpOptionKind {
 }
 
 // An option that was handed out: what it is, where it starts in the option bytes, how many bytes it has, and its place in the packet.
-#[derive(Clone, Copy)]
+#[derive(Clone, Copy, Debug, PartialEq, Eq)]
 pub struct NdpOption {
     pub kind: NdpOptionKind,
     pub option_type: NdpOptionType,
@@ -45,12 +47,13 @@ pub struct NdpOption {
 }
 
 // A place in the option bytes. A place beyond them is that of a stopped walk.
-#[derive(Clone, Copy)]
+#[derive(Clone, Copy, Debug, PartialEq, Eq)]
 pub struct Cursor {
     pub at: usize,
 }
 
-#[derive(Clone, Copy)]
+// Four answers: an `Iterator` cannot tell End from Stopped, and a walk that a refusal stopped is no finished list.
+#[derive(Clone, Copy, Debug, PartialEq, Eq)]
 pub enum Step {
     Handed(NdpOption, Cursor),
     // The bytes are used up.
@@ -68,13 +71,20 @@ struct Found {
     len: usize,
 }
 
-// What stands at the head of a rest: nothing, no option, or an option.
-#[derive(Clone, Copy)]
-enum Judged {
-    Over,
-    Bad(Refusal),
-    Good(Found),
-}
+// The types that have a rule or a kind of their own (RFC 4861, section 4.6; RFC 4191, section 2.3; RFC 8106, section 5.1).
+const SOURCE_LINK_LAYER_ADDRESS: u8 = 1;
+
+const TARGET_LINK_LAYER_ADDRESS: u8 = 2;
+
+const PREFIX_INFORMATION: u8 = 3;
+
+const REDIRECTED_HEADER: u8 = 4;
+
+const MTU: u8 = 5;
+
+const ROUTE_INFORMATION: u8 = 24;
+
+const RECURSIVE_DNS_SERVERS: u8 = 25;
 
 // The only length of a prefix information option (RFC 4861, section 4.6.2).
 const PREFIX_INFORMATION_LEN: usize = 32;
@@ -87,16 +97,16 @@ const ROUTE_MOST: usize = 24;
 
 const SERVERS_LEAST: usize = 24;
 
+// By a match: all numbers but five are Unknown.
 fn kind_of(id: NdpOptionType) -> NdpOptionKind
     ensures { option_kind_number result ≡ option_kind id.0 }
 {
-    let n = id.0;
-    match n {
-        1 => NdpOptionKind::SourceLinkLayerAddress,
-        2 => NdpOptionKind::TargetLinkLayerAddress,
-        3 => NdpOptionKind::PrefixInformation,
-        4 => NdpOptionKind::RedirectedHeader,
-        5 => NdpOptionKind::Mtu,
+    match id.0 {
+        SOURCE_LINK_LAYER_ADDRESS => NdpOptionKind::SourceLinkLayerAddress,
+        TARGET_LINK_LAYER_ADDRESS => NdpOptionKind::TargetLinkLayerAddress,
+        PREFIX_INFORMATION => NdpOptionKind::PrefixInformation,
+        REDIRECTED_HEADER => NdpOptionKind::RedirectedHeader,
+        MTU => NdpOptionKind::Mtu,
         _ => NdpOptionKind::Unknown,
     }
 }
@@ -105,10 +115,9 @@ fn kind_of(id: NdpOptionType) -> NdpOptionKind
 fn asked_len(id: NdpOptionType, len: usize) -> usize
     ensures { result ≡ asked_of id.0 len }
 {
-    let n = id.0;
-    match n {
-        3 => PREFIX_INFORMATION_LEN,
-        5 => MTU_LEN,
+    match id.0 {
+        PREFIX_INFORMATION => PREFIX_INFORMATION_LEN,
+        MTU => MTU_LEN,
         _ => len,
     }
 }
@@ -117,10 +126,9 @@ fn asked_len(id: NdpOptionType, len: usize) -> usize
 fn fits(id: NdpOptionType, len: usize) -> bool
     ensures { result ≡ eqb len (asked_of id.0 len) }
 {
-    let n = id.0;
-    match n {
-        3 => len == PREFIX_INFORMATION_LEN,
-        5 => len == MTU_LEN,
+    match id.0 {
+        PREFIX_INFORMATION => len == PREFIX_INFORMATION_LEN,
+        MTU => len == MTU_LEN,
         _ => true,
     }
 }
@@ -136,30 +144,24 @@ fn misfit(id: NdpOptionType, expected: usize, actual: usize, place: usize) -> Re
     }
 }
 
-// By the first edition's rule of a type: an option, or refused for its size. A refusal is made where it is answered, so that an option costs nothing
-// for it.
-fn by_rule(id: NdpOptionType, len: usize, place: usize) -> Judged
-    ensures { judged_told result ≡ judged_at place (ruled id.0 len (rule_of id.0 len)) }
+// By the first edition's rule of a type: the kind of an option, or refused for its size. A refusal is made where it is answered, so that an option
+// costs nothing for it.
+fn by_rule(id: NdpOptionType, len: usize, place: usize) -> Result<NdpOptionKind, Refusal>
+    ensures { ruled_told result ≡ ruled_at place (rule_of id.0 len) }
 {
     if fits(id, len) {
-        let kind = kind_of(id);
-        return Judged::Good(Found {
-            kind,
-            option_type: id,
-            len,
-        });
+        return Ok(kind_of(id));
     }
-    Judged::Bad(misfit(id, asked_len(id, len), len, place))
+    Err(misfit(id, asked_len(id, len), len, place))
 }
 
 // Whether the edition has a rule of its own for a type.
 fn asks_more(edition: Edition, id: NdpOptionType) -> bool
     ensures { result ≡ asks_more edition id.0 }
 {
-    let n = id.0;
     match edition {
         Edition::First => false,
-        Edition::Second => n == 24 || n == 25,
+        Edition::Second => id.0 == ROUTE_INFORMATION || id.0 == RECURSIVE_DNS_SERVERS,
     }
 }
 
@@ -167,8 +169,13 @@ fn asks_more(edition: Edition, id: NdpOptionType) -> bool
 fn route_bytes(prefix: u8) -> usize
     ensures { result ≡ route_bytes prefix }
 {
-    let bits = prefix as usize;
-    ((bits + 63) / 64 + 1) * 8
+    let bits = u16::from(prefix);
+    let units = (bits + 63) / 64 + 1;
+    let header = NdpOptionHeader {
+        option_type: NdpOptionType(ROUTE_INFORMATION),
+        length_units: LengthUnits(units as u8),
+    };
+    header.byte_len()
 }
 
 fn route_fits(len: usize, prefix: u8) -> bool
@@ -186,11 +193,11 @@ fn servers_fit(len: usize) -> bool
 }
 
 // Of a type that the second edition adds: whether its size fits, its kind, whether its prefix is too long, and the size that it lacks. Each is asked in
-// `judge`, what fits first: a function between them that makes a Judged costs a step half as much again (docs/BENCHMARKS.md).
+// `by_newer`, what fits first.
 fn newer_fits(id: NdpOptionType, len: usize, prefix: u8) -> bool
     ensures { result ≡ newer_fits id.0 len prefix }
 {
-    if id.0 == 24 {
+    if id.0 == ROUTE_INFORMATION {
         return route_fits(len, prefix);
     }
     servers_fit(len)
@@ -200,7 +207,7 @@ fn newer_fits(id: NdpOptionType, len: usize, prefix: u8) -> bool
 fn newer_kind(id: NdpOptionType, flags: u8) -> NdpOptionKind
     ensures { option_kind_number result ≡ newer_kind id.0 flags }
 {
-    if id.0 == 25 {
+    if id.0 == RECURSIVE_DNS_SERVERS {
         return NdpOptionKind::RecursiveDnsServers;
     }
     if is_reserved(flags) {
@@ -213,7 +220,7 @@ fn newer_kind(id: NdpOptionType, flags: u8) -> NdpOptionKind
 fn is_long_route(id: NdpOptionType, len: usize, prefix: u8) -> bool
     ensures { result ≡ is_long id.0 len prefix }
 {
-    if id.0 != 24 {
+    if id.0 != ROUTE_INFORMATION {
         return false;
     }
     len <= ROUTE_MOST && 128 < prefix
@@ -222,7 +229,7 @@ fn is_long_route(id: NdpOptionType, len: usize, prefix: u8) -> bool
 fn newer_asked(id: NdpOptionType, len: usize, prefix: u8) -> usize
     ensures { result ≡ newer_asked id.0 len prefix }
 {
-    if id.0 != 24 {
+    if id.0 != ROUTE_INFORMATION {
         return SERVERS_LEAST;
     }
     if ROUTE_MOST < len {
@@ -231,58 +238,80 @@ fn newer_asked(id: NdpOptionType, len: usize, prefix: u8) -> usize
     route_bytes(prefix)
 }
 
-// What stands at the head of a rest, whose first byte is at a place of the packet.
-fn judge(rest: &[u8], place: usize, edition: Edition) -> Judged
+// By the second edition's rule of a type that it adds: the kind of an option, or why it is refused.
+fn by_newer(
+    id: NdpOptionType,
+    len: usize,
+    prefix: u8,
+    flags: u8,
+    place: usize,
+) -> Result<NdpOptionKind, Refusal>
+    ensures { ruled_told result ≡ ruled_at place (newer_of id.0 len prefix flags) }
+{
+    if newer_fits(id, len, prefix) {
+        return Ok(newer_kind(id, flags));
+    }
+    if is_long_route(id, len, prefix) {
+        return Err(Refusal::LongRoutePrefix { place });
+    }
+    Err(misfit(id, newer_asked(id, len, prefix), len, place))
+}
+
+// What stands at the head of a rest, whose first byte is at a place of the packet: nothing, an option, or why it is none.
+fn judge(rest: &[u8], place: usize, edition: Edition) -> Result<Option<Found>, Refusal>
     ensures { judged_told result ≡ judged_at place (judge (rule_by edition) rest.now) }
 {
     let left = rest.len();
     if left == 0 {
-        return Judged::Over;
+        return Ok(None);
     }
     let id = NdpOptionType(rest[0]);
     if left < NDP_OPTION_HEADER_LEN {
-        return Judged::Bad(misfit(id, NDP_OPTION_HEADER_LEN, left, place));
+        return Err(misfit(id, NDP_OPTION_HEADER_LEN, left, place));
     }
     let header = NdpOptionHeader::from_bytes([rest[0], rest[1]]);
-    let units = header.length_units;
-    if units.0 == 0 {
-        return Judged::Bad(Refusal::ZeroLength { id, place });
+    if header.length_units.0 == 0 {
+        return Err(Refusal::ZeroLength { id, place });
     }
     let len = header.byte_len();
     if left < len {
-        return Judged::Bad(Refusal::UnexpectedEndOfSlice {
+        return Err(Refusal::UnexpectedEndOfSlice {
             id,
             expected: len,
             actual: left,
             place,
         });
     }
-    if asks_more(edition, id) {
-        let prefix = rest[2];
-        if newer_fits(id, len, prefix) {
-            let kind = newer_kind(id, rest[3]);
-            return Judged::Good(Found {
-                kind,
-                option_type: id,
-                len,
-            });
-        }
-        if is_long_route(id, len, prefix) {
-            return Judged::Bad(Refusal::LongRoutePrefix { place });
-        }
-        return Judged::Bad(misfit(id, newer_asked(id, len, prefix), len, place));
-    }
-    by_rule(id, len, place)
+    let kind = if asks_more(edition, id) {
+        by_newer(id, len, rest[2], rest[3], place)?
+    } else {
+        by_rule(id, len, place)?
+    };
+    Ok(Some(Found {
+        kind,
+        option_type: id,
+        len,
+    }))
 }
 
 impl Edition {
-    // The edition of a number: 2 is the second, every other number the first.
+    // The edition of a number: 2 is the second, every other number the first. Not a `From`: docs/PROMISES.md names it.
     pub fn of(number: u32) -> Self
         ensures { result ≡ edition_of number }
     {
         match number {
             2 => Edition::Second,
             _ => Edition::First,
+        }
+    }
+
+    // The number of an edition, of which `of` gives it back.
+    pub fn number(self) -> u32
+        ensures { result ≡ edition_number self }
+    {
+        match self {
+            Edition::First => 1,
+            Edition::Second => 2,
         }
     }
 }
@@ -317,30 +346,30 @@ impl Cursor {
             return Step::Stopped;
         }
         if packet_place::is_far(offset, n) {
-            let beyond = n + 1;
-            return Step::Refused(Refusal::FarOffset, Cursor { at: beyond });
+            return Step::Refused(Refusal::FarOffset, Cursor { at: n + 1 });
         }
         let place = offset + at;
         match judge(&options[at..], place, edition) {
-            Judged::Over => Step::End,
-            Judged::Bad(why) => {
-                let beyond = n + 1;
-                Step::Refused(why, Cursor { at: beyond })
-            }
-            Judged::Good(found) => {
-                let kind = found.kind;
-                let id = found.option_type;
-                let len = found.len;
+            Ok(None) => Step::End,
+            Ok(
+                Some(
+                    Found {
+                        kind,
+                        option_type,
+                        len,
+                    },
+                ),
+            ) => {
                 let option = NdpOption {
                     kind,
-                    option_type: id,
+                    option_type,
                     at,
                     len,
                     place,
                 };
-                let next = at + len;
-                Step::Handed(option, Cursor { at: next })
+                Step::Handed(option, Cursor { at: at + len })
             }
+            Err(why) => Step::Refused(why, Cursor { at: n + 1 }),
         }
     }
 }
@@ -350,11 +379,9 @@ impl NdpOption {
     pub fn bytes(self, options: &[u8]) -> &[u8]
         ensures { result.now ≡ take self.len (drop self.at options.now) }
     {
-        let len = self.len;
-        let here = Cursor { at: self.at };
-        let rest = here.rest(options);
-        if len <= rest.len() {
-            &rest[..len]
+        let rest = Cursor { at: self.at }.rest(options);
+        if self.len <= rest.len() {
+            &rest[..self.len]
         } else {
             rest
         }

@@ -1,5 +1,4 @@
-// The walk as a struct that holds its slice (docs/RULES.md W16). Each function takes the walker apart and leaves the work to a function on the
-// slice and the numbers.
+// The walk as a struct that holds its slice (docs/RULES.md W16), and as an iterator.
 #![tactic(auto)]
 
 ghost use Rattle.std.specs.Prelude.{◌≡◌, drop};
@@ -7,11 +6,16 @@ ghost use Rattle.ndp_options.specs.Editions.{edition_of};
 ghost use Rattle.ndp_options.specs.Walk.{step_of};
 ghost use Rattle.ndp_options.specs.Told.{step_told};
 
-use ndp_options::{Cursor, Edition, Step};
+use ndp_options::{Cursor, Edition, NdpOption, Step};
+use refusal::Refusal;
 
-// The option bytes, the offset at which they begin in the packet, the edition of the walk as a number (`Edition::of`), and a place among them. The
+// The option bytes, the offset at which they begin in the packet, the edition of the walk as a number (`Edition::of`), as callers have it, and a place among them. The
 // walker holds the edition: steps now in one and now in the other could come to the End of a list that the second refuses.
-#[derive(Clone, Copy)]
+//
+// As an iterator it gives each option, and at last the refusal if there is one. `None` says only that nothing is left; whether the walk came to the end
+// or was stopped, `step` tells. The `Err` comes before the `None`, so `for option in walker { let option = option?; .. }` cannot take half a list for a
+// whole one.
+#[derive(Clone, Copy, Debug)]
 pub struct Walker<'a> {
     pub options: &'a [u8],
     pub offset: usize,
@@ -19,18 +23,38 @@ pub struct Walker<'a> {
     pub at: usize,
 }
 
+impl<'a> Iterator for Walker<'a> {
+    ghost use Rattle.std.specs.Iterator.{YieldsFirstBy, item_count};
+    ghost use Rattle.refusal.specs.Told.{told};
+    ghost use Rattle.ndp_options.specs.Editions.{edition_of};
+    ghost use Rattle.ndp_walker.specs.Left.{option_numbers, left_of};
+
+    type Item = Result<NdpOption, Refusal>;
+
+    ghost next_gives = { YieldsFirstBy (told option_numbers) (λ w. left_of (edition_of w.edition) w.offset w.options.now w.at) };
+
+    ghost remaining = { item_count (λ w. left_of (edition_of w.edition) w.offset w.options.now w.at) };
+
+    fn next(&mut self) -> Option<Result<NdpOption, Refusal>> {
+        match step_at(self.options, self.offset, self.at, self.edition) {
+            Step::Handed(option, next) => {
+                self.at = next.at;
+                Some(Ok(option))
+            }
+            Step::Refused(why, next) => {
+                self.at = next.at;
+                Some(Err(why))
+            }
+            Step::End | Step::Stopped => None,
+        }
+    }
+}
+
 fn step_at(options: &[u8], offset: usize, at: usize, edition: u32) -> Step
     ensures { step_told result ≡ step_of (edition_of edition) offset options.now at }
 {
     let here = Cursor { at };
     here.step(options, offset, Edition::of(edition))
-}
-
-fn rest_at<'a>(options: &'a [u8], at: usize) -> &'a [u8]
-    ensures { result.now ≡ drop at options.now }
-{
-    let from = Cursor { at };
-    from.rest(options)
 }
 
 // A walker at the first byte.
@@ -56,7 +80,7 @@ pub fn step<'a>(w: Walker<'a>) -> Step
 pub fn rest<'a>(w: Walker<'a>) -> &'a [u8]
     ensures { result.now ≡ drop w.entry.at w.entry.options.now }
 {
-    rest_at(w.options, w.at)
+    Cursor { at: w.at }.rest(w.options)
 }
 
 // The first step over the bytes, for a caller who needs no walker.

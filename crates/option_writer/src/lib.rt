@@ -8,19 +8,25 @@ ghost use Rattle.prefix_information.specs.Prefix.{bytes_of};
 ghost use Rattle.option_writer.specs.Options.{mtu_bytes, link_layer_bytes};
 
 use ndp_option::link_layer_address_option::LinkLayerAddressOption;
-use output::Written;
 use prefix_information::PrefixInformation;
+use refusal::Refusal;
 
 // Section 4.6.2.
-pub fn put_prefix_information(information: PrefixInformation, out: &mut [u8], at: usize) -> Written
+pub fn put_prefix_information(
+    information: PrefixInformation,
+    out: &mut [u8],
+    at: usize,
+) -> Result<usize, Refusal>
     ensures answers { written_told result ≡ room_for 32 out.old at }
     ensures lent { out.new ≡ leaves (room_for 32 out.old at) out.old at (bytes_of information) }
 {
-    let bytes = information.to_bytes();
-    output::put(out, at, &bytes)
+    output::put(out, at, &information.to_bytes())
 }
 
-pub fn write_prefix_information(information: PrefixInformation, out: &mut [u8]) -> Written
+pub fn write_prefix_information(
+    information: PrefixInformation,
+    out: &mut [u8],
+) -> Result<usize, Refusal>
     ensures answers { written_told result ≡ room_for 32 out.old 0 }
     ensures lent { out.new ≡ leaves (room_for 32 out.old 0) out.old 0 (bytes_of information) }
 {
@@ -28,16 +34,15 @@ pub fn write_prefix_information(information: PrefixInformation, out: &mut [u8]) 
 }
 
 // Section 4.6.4; the reserved bytes are 0.
-pub fn put_mtu(mtu: u32, out: &mut [u8], at: usize) -> Written
+pub fn put_mtu(mtu: u32, out: &mut [u8], at: usize) -> Result<usize, Refusal>
     ensures answers { written_told result ≡ room_for 8 out.old at }
     ensures lent { out.new ≡ leaves (room_for 8 out.old at) out.old at (mtu_bytes mtu) }
 {
-    let m = wire::u32_to_be(mtu);
-    let bytes = [5, 1, 0, 0, m[0], m[1], m[2], m[3]];
-    output::put(out, at, &bytes)
+    let [a, b, c, d] = mtu.to_be_bytes();
+    output::put(out, at, &[5, 1, 0, 0, a, b, c, d])
 }
 
-pub fn write_mtu(mtu: u32, out: &mut [u8]) -> Written
+pub fn write_mtu(mtu: u32, out: &mut [u8]) -> Result<usize, Refusal>
     ensures answers { written_told result ≡ room_for 8 out.old 0 }
     ensures lent { out.new ≡ leaves (room_for 8 out.old 0) out.old 0 (mtu_bytes mtu) }
 {
@@ -50,22 +55,20 @@ pub fn put_link_layer_address(
     address: [u8; 6],
     out: &mut [u8],
     at: usize,
-) -> Written
+) -> Result<usize, Refusal>
     ensures answers { written_told result ≡ room_for 8 out.old at }
     ensures lent { out.new ≡ leaves (room_for 8 out.old at) out.old at (link_layer_bytes whose address) }
 {
     let id = whose.option_type();
-    let bytes = [
-        id.0, 1, address[0], address[1], address[2], address[3], address[4], address[5],
-    ];
-    output::put(out, at, &bytes)
+    let [a, b, c, d, e, f] = address;
+    output::put(out, at, &[id.0, 1, a, b, c, d, e, f])
 }
 
 pub fn write_link_layer_address(
     whose: LinkLayerAddressOption,
     address: [u8; 6],
     out: &mut [u8],
-) -> Written
+) -> Result<usize, Refusal>
     ensures answers { written_told result ≡ room_for 8 out.old 0 }
     ensures lent { out.new ≡ leaves (room_for 8 out.old 0) out.old 0 (link_layer_bytes whose address) }
 {

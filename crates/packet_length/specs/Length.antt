@@ -1,11 +1,10 @@
 -- docs/RULES.md N1 and N2: a packet under 8 bytes, or above MAX_ICMPV6_BYTE_LEN, which is the largest length that the 32 bits of
 -- the pseudo-header's length field hold (RFC 8200, section 8.1).
 -- Assumes nothing.
-use Rattle.std.specs.Prelude.{ℕ, Bool, cond, not, ◌&&◌, [], ◌∷◌, ltb}
+use Rattle.std.specs.Prelude.{ℕ, Bool, cond, not, ◌&&◌, [], ◌∷◌, ltb, Result}
 use Rattle.paper.specs.Paper.{Paper, refuses, gives}
-use Rattle.refusal.specs.Paper.{refusal}
-use Rattle.packet_length.specs.declared.PacketLength.{PacketLength}
-use Rattle.packet_length.specs.declared.PacketLength.TheVariants.{Fits, Refused}
+use Rattle.refusal.specs.Told.{told}
+use Rattle.refusal.specs.declared.Refusal.{Refusal}
 
 abbrev pub limit : ℕ
 limit = 4294967295
@@ -18,6 +17,5 @@ fits n = not (ltb n 8) && not (ltb limit n)
 unfoldable pub sized : ℕ → Paper → Paper
 sized n answer = cond (ltb n 8) (refuses 1 (8 ∷ n ∷ [])) (cond (ltb limit n) (refuses 2 (limit ∷ n ∷ [])) answer)
 
-abbrev pub length_told : PacketLength → Paper
-length_told Fits = gives []
-length_told (Refused r) = refusal r
+abbrev pub length_told : Result (Unit {0}) Refusal → Paper
+length_told = told (λ x. [])

@@ -13,27 +13,21 @@ pub const MIN_LEN: usize = 8;
 // The longest packet: what the pseudo-header's length field of 32 bits can say.
 pub const MAX_ICMPV6_BYTE_LEN: usize = 4294967295;
 
-#[derive(Clone, Copy)]
-pub enum PacketLength {
-    Fits,
-    Refused(Refusal),
-}
-
 #[tactic(auto, unfolding(crate::specs::Length::sized))]
-pub fn check_len(length: usize) -> PacketLength
+pub fn check_len(length: usize) -> Result<(), Refusal>
     ensures { length_told result ≡ sized length (gives []) }
 {
     if length < MIN_LEN {
-        return PacketLength::Refused(Refusal::ShortPacket {
+        return Err(Refusal::ShortPacket {
             least: MIN_LEN,
             length,
         });
     }
     if MAX_ICMPV6_BYTE_LEN < length {
-        return PacketLength::Refused(Refusal::LongPacket {
+        return Err(Refusal::LongPacket {
             limit: MAX_ICMPV6_BYTE_LEN,
             length,
         });
     }
-    PacketLength::Fits
+    Ok(())
 }

@@ -11,11 +11,5 @@ use packet_length::MAX_ICMPV6_BYTE_LEN;
 pub fn is_far(offset: usize, length: usize) -> bool
     ensures { result ≡ is_far offset length }
 {
-    if MAX_ICMPV6_BYTE_LEN < offset {
-        return true;
-    }
-    if MAX_ICMPV6_BYTE_LEN - offset < length {
-        return true;
-    }
-    false
+    MAX_ICMPV6_BYTE_LEN < offset || MAX_ICMPV6_BYTE_LEN - offset < length
 }

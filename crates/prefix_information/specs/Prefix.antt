@@ -1,12 +1,13 @@
 -- docs/RULES.md O4 to O6 (RFC 4861, section 4.6.2): the prefix information option, read and written.
 -- Assumes nothing.
-use Rattle.std.specs.Prelude.{ℕ, ◌+◌, false, List, ◌∷◌, ◌++◌, get_or, drop, replicate}
-use Rattle.paper.specs.Paper.{Paper}
+use Rattle.std.specs.Prelude.{ℕ, ◌+◌, false, List, [], ◌∷◌, ◌++◌, Result, Ok, Err, get_or, drop, replicate}
+use Rattle.paper.specs.Paper.{Paper, gives}
+use Rattle.refusal.specs.declared.Refusal.{Refusal}
+use Rattle.refusal.specs.Paper.{refusal}
 use Rattle.packet_place.specs.Place.{placed}
 use Rattle.wire.specs.Wire.{word32_at, bytes32, has_flag, flag_of}
 use Rattle.prefix_information.specs.declared.PrefixInformation.{PrefixInformation}
-use Rattle.prefix_information.specs.declared.PrefixInformationRead.{PrefixInformationRead}
-use Rattle.ndp_option_read.specs.Rule.{read_told, headed, exactly_of, if_read}
+use Rattle.ndp_option_read.specs.Rule.{headed, exactly_of, if_read}
 
 -- what the bytes say: 128 is on-link, 64 autonomous; the other bits of the flags and the bytes 12 to 15 are reserved
 abbrev pub information_at : List ℕ → PrefixInformation
@@ -45,8 +46,10 @@ pub record PrefixTold : Type 0 where
 abbrev pub told_with : Paper → PrefixInformation → PrefixTold
 told_with p i = record { paper = p; information = i }
 
-abbrev pub prefix_told : PrefixInformationRead → PrefixTold
-prefix_told r = told_with (read_told r.answer) r.information
+-- the place of the option, and what it says; nothing where it is refused
+abbrev pub prefix_told : Result (PrefixInformation × ℕ) Refusal → PrefixTold
+prefix_told (Ok (i, place)) = told_with (gives (place ∷ [])) i
+prefix_told (Err why) = told_with (refusal why) no_information
 
 -- by the rule's answer: what the bytes say, and nothing where it refuses
 abbrev pub prefix_by : Paper → List ℕ → PrefixTold

@@ -4,8 +4,7 @@
 ghost use Rattle.std.specs.Prelude.{◌≡◌, length, drop};
 ghost use Rattle.prefix_information.specs.Prefix.{prefix_told, prefix_of32, prefix_of, information_at, bytes_of};
 
-use ndp_option_read::NdpOptionRead;
-use refusal::{LengthUnits, NdpOptionType};
+use refusal::{LengthUnits, NdpOptionType, Refusal};
 
 const PREFIX_INFORMATION: NdpOptionType = NdpOptionType(3);
 
@@ -15,7 +14,7 @@ const ON_LINK_MASK: u8 = 128;
 
 const AUTONOMOUS_ADDRESS_CONFIGURATION_MASK: u8 = 64;
 
-#[derive(Clone, Copy)]
+#[derive(Clone, Copy, Debug, PartialEq, Eq)]
 pub struct PrefixInformation {
     // How many leading bits of the prefix are valid. Not tested: it may be above 128.
     pub prefix_length: u8,
@@ -27,43 +26,23 @@ pub struct PrefixInformation {
     pub prefix: [u8; 16],
 }
 
-// What the option says stands beside the answer, since no enum may hold an array. All 0 if the option is refused.
-#[derive(Clone, Copy)]
-pub struct PrefixInformationRead {
-    pub answer: NdpOptionRead,
-    pub information: PrefixInformation,
-}
-
 impl PrefixInformation {
-    pub fn from_bytes(bytes: [u8; 32], offset: usize) -> PrefixInformationRead
+    // What the option says, and its place in the packet.
+    pub fn from_bytes(bytes: [u8; 32], offset: usize) -> Result<(PrefixInformation, usize), Refusal>
         ensures { prefix_told result ≡ prefix_of32 offset bytes }
     {
         PrefixInformation::from_slice(&bytes, offset)
     }
 
     // The option whose first byte is at an offset of the packet.
-    pub fn from_slice(slice: &[u8], offset: usize) -> PrefixInformationRead
+    pub fn from_slice(slice: &[u8], offset: usize) -> Result<(PrefixInformation, usize), Refusal>
         ensures { prefix_told result ≡ prefix_of offset slice.now }
     {
-        match ndp_option_read::exactly(PREFIX_INFORMATION, LENGTH_UNITS, slice, offset) {
-            NdpOptionRead::Accepted(place) => PrefixInformationRead {
-                answer: NdpOptionRead::Accepted(place),
-                information: information_in(slice),
-            },
-            NdpOptionRead::Refused(why) => PrefixInformationRead {
-                answer: NdpOptionRead::Refused(why),
-                information: PrefixInformation {
-                    prefix_length: 0,
-                    on_link: false,
-                    autonomous_address_configuration: false,
-                    valid_lifetime: 0,
-                    preferred_lifetime: 0,
-                    prefix: [0; 16],
-                },
-            },
-        }
+        let place = ndp_option_read::exactly(PREFIX_INFORMATION, LENGTH_UNITS, slice, offset)?;
+        Ok((information_in(slice), place))
     }
 
+    // Byte by byte, as the option is drawn in the RFC (section 4.6.2): by slices it would be no plainer.
     pub fn to_bytes(self) -> [u8; 32]
         ensures { result ≡ bytes_of self }
     {
@@ -72,8 +51,8 @@ impl PrefixInformation {
                 self.autonomous_address_configuration,
                 AUTONOMOUS_ADDRESS_CONFIGURATION_MASK,
             );
-        let valid = wire::u32_to_be(self.valid_lifetime);
-        let preferred = wire::u32_to_be(self.preferred_lifetime);
+        let valid = self.valid_lifetime.to_be_bytes();
+        let preferred = self.preferred_lifetime.to_be_bytes();
         let prefix = self.prefix;
         [
             3,
@@ -125,8 +104,8 @@ fn information_in(slice: &[u8]) -> PrefixInformation
             flags,
             AUTONOMOUS_ADDRESS_CONFIGURATION_MASK,
         ),
-        valid_lifetime: wire::u32_from_be(slice[4], slice[5], slice[6], slice[7]),
-        preferred_lifetime: wire::u32_from_be(slice[8], slice[9], slice[10], slice[11]),
+        valid_lifetime: u32::from_be_bytes([slice[4], slice[5], slice[6], slice[7]]),
+        preferred_lifetime: u32::from_be_bytes([slice[8], slice[9], slice[10], slice[11]]),
         prefix: prefix_in(slice),
     }
 }
@@ -136,8 +115,7 @@ fn prefix_in(slice: &[u8]) -> [u8; 16]
     requires { length slice.now ≡ 32 }
     ensures { result ≡ drop 16 slice.now }
 {
-    [
-        slice[16], slice[17], slice[18], slice[19], slice[20], slice[21], slice[22], slice[23],
-        slice[24], slice[25], slice[26], slice[27], slice[28], slice[29], slice[30], slice[31],
-    ]
+    let mut prefix = [0; 16];
+    prefix.copy_from_slice(&slice[16..32]);
+    prefix
 }

@@ -6,63 +6,68 @@ ghost use Rattle.std.specs.Prelude.{◌≡◌, not, ◌&&◌, ◌≤◌, eqb, le
 ghost use Rattle.packet_length.specs.Length.{fits};
 ghost use Rattle.message_table.specs.Table.{is_ndp};
 ghost use Rattle.icmpv6_payload_slice.specs.Dispatch.{payload_kind_number, payload_told, by_bytes};
-ghost use Rattle.receive_rules.specs.Reasons.{first_of};
+ghost use Rattle.receive_rules.specs.Reasons.{first_of, reason_told};
 ghost use Rattle.receive.specs.Own.{own_of};
 ghost use Rattle.receive.specs.Receive.{option_reasons, reasons, is_sound, reason_of, receive_of};
 ghost use Rattle.receive.specs.Told.{received_told, packet_judged_told, judged_of};
 
+use addresses::Addresses;
 use checksum::validates;
-use icmpv6_payload_slice::{Icmpv6PayloadSlice, PayloadRead};
+use icmpv6_payload_slice::{Icmpv6PayloadKind, Icmpv6PayloadSlice};
 use message_table::is_ndp;
-use ndp_option_list::{Occurs, has_type};
+use ndp_option_list::has_type;
 use ndp_options::{Cursor, Edition};
-use packet_length::{PacketLength, check_len};
+use packet_length::check_len;
 use receive_rules::{
-    neighbor_advertisement, neighbor_solicitation, redirect, router_advertisement,
+    Reason, neighbor_advertisement, neighbor_solicitation, redirect, router_advertisement,
     router_solicitation,
 };
 use refusal::{NdpOptionType, Refusal};
 
-#[derive(Clone, Copy)]
-pub enum Received {
-    // What the packet is and where its parts are: its options are whole in the edition, and are the bytes from `options_at` on.
-    Accepted(Icmpv6PayloadSlice),
-    // Refusals 1, 2, or 11 with the first reason that holds.
-    Refused(Refusal),
-}
-
-// A packet that was judged: what it is, whether its checksum is right, and the reason not to receive it, 0 where there is none. Of a packet whose
+// A packet that was judged: what it is, whether its checksum is right, and the reason not to receive it. Of a packet whose
 // length is refused, which `opened` says, there is none.
-#[derive(Clone, Copy)]
+#[derive(Clone, Copy, Debug, PartialEq, Eq)]
 pub struct Judged {
-    pub opened: PayloadRead,
+    pub opened: Result<Icmpv6PayloadSlice, Refusal>,
     pub valid: bool,
-    pub reason: u8,
+    pub reason: Option<Reason>,
 }
 
-// The first of a type's own reasons, or 0.
+// The first of a type's own reasons.
+#[tactic(auto, unfolding(crate::specs::Own::own_of, receive_rules::specs::Reasons::first_of))]
 fn own_reason(
     message: Icmpv6PayloadSlice,
     packet: &[u8],
-    source: &[u8; 16],
-    destination: &[u8; 16],
+    addresses: Addresses,
     listed: bool,
-) -> u8
+) -> Option<Reason>
     requires { (8 ≤ length packet.now) × (message.payload_at ≡ 8) }
-    ensures { result ≡ first_of (own_of (payload_kind_number message.kind) source.now destination.now packet.now listed) }
+    ensures { reason_told result ≡ first_of (own_of (payload_kind_number message.kind) addresses.source addresses.destination packet.now listed) }
 {
-    let kind = message.kind;
-    match kind.type_u8() {
-        133 => router_solicitation(source, listed),
-        134 => router_advertisement(source),
-        135 => neighbor_solicitation(source, destination, message.target_address(packet), listed),
-        136 => neighbor_advertisement(destination, packet[4], message.target_address(packet)),
-        137 => redirect(
-            source,
+    match message.kind {
+        Icmpv6PayloadKind::RouterSolicitation => router_solicitation(&addresses.source, listed),
+        Icmpv6PayloadKind::RouterAdvertisement => router_advertisement(&addresses.source),
+        Icmpv6PayloadKind::NeighborSolicitation => {
+            neighbor_solicitation(
+                &addresses.source,
+                &addresses.destination,
+                message.target_address(packet),
+                listed,
+            )
+        }
+        Icmpv6PayloadKind::NeighborAdvertisement => {
+            neighbor_advertisement(
+                &addresses.destination,
+                packet[4],
+                message.target_address(packet),
+            )
+        }
+        Icmpv6PayloadKind::Redirect => redirect(
+            &addresses.source,
             message.target_address(packet),
             message.destination_address(packet),
         ),
-        _ => 0,
+        _ => None,
     }
 }
 
@@ -70,54 +75,49 @@ fn own_reason(
 fn option_reason(
     message: Icmpv6PayloadSlice,
     packet: &[u8],
-    source: &[u8; 16],
-    destination: &[u8; 16],
+    addresses: Addresses,
     edition: Edition,
-) -> u8
+) -> Option<Reason>
     requires in_bounds { (8 ≤ length packet.now) × (message.payload_at ≡ 8) }
     requires options_at_in_bounds { (message.options_at ≤ length packet.now) × (length packet.now ≤ 4294967295) }
-    ensures { result ≡ first_of (option_reasons edition (payload_kind_number message.kind) (drop message.options_at packet.now) source.now destination.now packet.now) }
+    ensures { reason_told result ≡ first_of (option_reasons edition (payload_kind_number message.kind) (drop message.options_at packet.now) addresses.source addresses.destination packet.now) }
 {
     let at = message.options_at;
     let start = Cursor { at };
     match has_type(start.rest(packet), at, NdpOptionType(1), edition) {
-        Occurs::Refused(_) => 5,
-        Occurs::Yes => own_reason(message, packet, source, destination, true),
-        Occurs::No => own_reason(message, packet, source, destination, false),
+        Ok(listed) => own_reason(message, packet, addresses, listed),
+        Err(_) => Some(Reason::Options),
     }
 }
 
-// The tests in their order, given the verdict on the checksum: the first that fails, or 0.
+// The tests in their order, given the verdict on the checksum: the first that fails.
 fn first_reason(
-    opened: PayloadRead,
+    opened: Result<Icmpv6PayloadSlice, Refusal>,
     valid: bool,
     packet: &[u8],
     hop_limit: u8,
-    source: &[u8; 16],
-    destination: &[u8; 16],
+    addresses: Addresses,
     edition: Edition,
-) -> u8
+) -> Option<Reason>
     requires in_bounds { (8 ≤ length packet.now) × (length packet.now ≤ 4294967295) }
-    requires opened_value { (payload_told opened ≡ by_bytes packet.now) × (valid ≡ is_sound source.now destination.now packet.now) }
-    ensures { result ≡ first_of (reasons edition hop_limit source.now destination.now packet.now) }
+    requires opened_value { (payload_told opened ≡ by_bytes packet.now) × (valid ≡ is_sound addresses.source addresses.destination packet.now) }
+    ensures { reason_told result ≡ first_of (reasons edition hop_limit addresses.source addresses.destination packet.now) }
 {
     if !is_ndp(packet[0]) {
-        return if valid { 0 } else { 2 };
+        return if valid { None } else { Some(Reason::Checksum) };
     }
     if hop_limit != 255 {
-        return 1;
+        return Some(Reason::HopLimit);
     }
     if !valid {
-        return 2;
+        return Some(Reason::Checksum);
     }
     if packet[1] != 0 {
-        return 3;
+        return Some(Reason::Code);
     }
     match opened {
-        PayloadRead::Refused(_) => 4,
-        PayloadRead::Payload(message) => {
-            option_reason(message, packet, source, destination, edition)
-        }
+        Ok(message) => option_reason(message, packet, addresses, edition),
+        Err(_) => Some(Reason::Length),
     }
 }
 
@@ -129,42 +129,28 @@ fn is_far(packet: &[u8], hop_limit: u8) -> bool
         return false;
     }
     match check_len(packet.len()) {
-        PacketLength::Refused(_) => false,
-        PacketLength::Fits => is_ndp(packet[0]),
+        Ok(()) => is_ndp(packet[0]),
+        Err(_) => false,
     }
 }
 
 // What a packet is that came under a hop limit, from a source to a destination, whether its checksum is right, and the reason not to receive it.
-pub fn judge(
-    packet: &[u8],
-    hop_limit: u8,
-    source: &[u8; 16],
-    destination: &[u8; 16],
-    edition: Edition,
-) -> Judged
-    ensures { packet_judged_told result ≡ judged_of edition hop_limit source.now destination.now packet.now }
+pub fn judge(packet: &[u8], hop_limit: u8, addresses: Addresses, edition: Edition) -> Judged
+    ensures { packet_judged_told result ≡ judged_of edition hop_limit addresses.source addresses.destination packet.now }
 {
     match check_len(packet.len()) {
-        PacketLength::Refused(why) => Judged {
-            opened: PayloadRead::Refused(why),
+        Err(why) => Judged {
+            opened: Err(why),
             valid: false,
-            reason: 0,
+            reason: None,
         },
-        PacketLength::Fits => {
-            let valid = validates(packet, source, destination);
+        Ok(()) => {
+            let valid = validates(packet, addresses);
             let opened = Icmpv6PayloadSlice::from_packet(packet);
             Judged {
                 opened,
                 valid,
-                reason: first_reason(
-                    opened,
-                    valid,
-                    packet,
-                    hop_limit,
-                    source,
-                    destination,
-                    edition,
-                ),
+                reason: first_reason(opened, valid, packet, hop_limit, addresses, edition),
             }
         }
     }
@@ -174,23 +160,21 @@ pub fn judge(
 pub fn receive_check(
     packet: &[u8],
     hop_limit: u8,
-    source: &[u8; 16],
-    destination: &[u8; 16],
+    addresses: Addresses,
     edition: Edition,
-) -> Received
-    ensures { received_told result ≡ receive_of edition hop_limit source.now destination.now packet.now }
+) -> Result<Icmpv6PayloadSlice, Refusal>
+    ensures { received_told result ≡ receive_of edition hop_limit addresses.source addresses.destination packet.now }
 {
     if is_far(packet, hop_limit) {
-        return Received::Refused(Refusal::NotReceived { reason: 1 });
+        return Err(Refusal::NotReceived {
+            reason: Reason::HopLimit.number(),
+        });
     }
-    let judged = judge(packet, hop_limit, source, destination, edition);
-    let reason = judged.reason;
-    if reason != 0 {
-        return Received::Refused(Refusal::NotReceived { reason });
-    }
-    let opened = judged.opened;
-    match opened {
-        PayloadRead::Refused(why) => Received::Refused(why),
-        PayloadRead::Payload(message) => Received::Accepted(message),
+    let judged = judge(packet, hop_limit, addresses, edition);
+    match judged.reason {
+        Some(reason) => Err(Refusal::NotReceived {
+            reason: reason.number(),
+        }),
+        None => judged.opened,
     }
 }

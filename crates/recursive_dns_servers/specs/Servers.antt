@@ -1,13 +1,13 @@
 -- docs/RULES.md O13 and O14 (RFC 8106, section 5.1): 25, units, two reserved bytes, which are not looked at, the lifetime, and the addresses.
 -- Assumes nothing.
-use Rattle.std.specs.Prelude.{ℕ, ◌+◌, ◌-◌, ◌*◌, ◌/◌, List, [], ◌∷◌, length, take, drop}
+use Rattle.std.specs.Prelude.{ℕ, ◌+◌, ◌-◌, ◌*◌, ◌/◌, List, [], ◌∷◌, Result, length, take, drop}
 use Rattle.paper.specs.Paper.{Paper, gives}
-use Rattle.refusal.specs.Paper.{refusal}
+use Rattle.refusal.specs.Told.{told}
 use Rattle.wire.specs.Wire.{word32_at}
 use Rattle.ndp_option_read.specs.Rule.{if_read}
 use Rattle.ndp_option_second.specs.Rule.{judged_of}
-use Rattle.recursive_dns_servers.specs.declared.ServersRead.{ServersRead}
-use Rattle.recursive_dns_servers.specs.declared.ServersRead.TheVariants.{Servers, Refused}
+use Rattle.refusal.specs.declared.Refusal.{Refusal}
+use Rattle.recursive_dns_servers.specs.declared.RecursiveDnsServers.{RecursiveDnsServers}
 
 -- how many addresses of 16 bytes
 abbrev pub count_in : List ℕ → ℕ
@@ -22,6 +22,8 @@ unfoldable pub address_of : ℕ → List ℕ → List ℕ
 address_of i s = if_read (judged_of 25 s) (take 16 (drop (8 + 16 * i) s)) []
 
 -- lifetime, count and place
-abbrev pub servers_told : ServersRead → Paper
-servers_told (Servers r) = gives (r.lifetime ∷ r.count ∷ r.place ∷ [])
-servers_told (Refused why) = refusal why
+abbrev pub servers_numbers : RecursiveDnsServers → List ℕ
+servers_numbers r = r.lifetime ∷ r.count ∷ r.place ∷ []
+
+abbrev pub servers_told : Result RecursiveDnsServers Refusal → Paper
+servers_told r = told servers_numbers r

@@ -6,15 +6,16 @@ ghost use Rattle.refusal.specs.Table.{number, values};
 ghost use Rattle.refusal.specs.Paper.{refusal, numbers_of};
 
 // The type field of a Neighbor Discovery option (RFC 4861, section 4.6).
-#[derive(Clone, Copy)]
+#[derive(Clone, Copy, Debug, PartialEq, Eq)]
 pub struct NdpOptionType(pub u8);
 
 // The length field of an option, in units of eight octets: never a number of bytes.
-#[derive(Clone, Copy)]
+#[derive(Clone, Copy, Debug, PartialEq, Eq)]
 pub struct LengthUnits(pub u8);
 
-// The variants stand in the order of the table: 1 to 23. A place is that in the whole packet.
-#[derive(Clone, Copy)]
+// The variants stand in the order of the table: 1 to 23. Kinds, codes and reasons are numbers here, since a type of another crate would ask more of whoever
+// makes one. A place is that in the whole packet.
+#[derive(Clone, Copy, Debug, PartialEq, Eq)]
 pub enum Refusal {
     ShortPacket {
         least: usize,
@@ -95,8 +96,8 @@ pub enum Refusal {
     OtherIndex,
 }
 
-// A refusal as numbers: its number, how many values it carries, and the values, 0 past the last.
-#[derive(Clone, Copy)]
+// A refusal as numbers: its number, how many values it carries, and the values, 0 past the last: an array, as the C structs have it.
+#[derive(Clone, Copy, Debug, PartialEq, Eq)]
 pub struct Numbers {
     pub number: u8,
     pub count: usize,
@@ -136,12 +137,18 @@ impl Refusal {
             } => Numbers {
                 number: 5,
                 count: 4,
-                values: [id.0 as u64, expected as u64, actual as u64, place as u64, 0],
+                values: [
+                    u64::from(id.0),
+                    expected as u64,
+                    actual as u64,
+                    place as u64,
+                    0,
+                ],
             },
             Refusal::ZeroLength { id, place } => Numbers {
                 number: 6,
                 count: 2,
-                values: [id.0 as u64, place as u64, 0, 0, 0],
+                values: [u64::from(id.0), place as u64, 0, 0, 0],
             },
             Refusal::UnexpectedEndOfSlice {
                 id,
@@ -151,7 +158,13 @@ impl Refusal {
             } => Numbers {
                 number: 7,
                 count: 4,
-                values: [id.0 as u64, expected as u64, actual as u64, place as u64, 0],
+                values: [
+                    u64::from(id.0),
+                    expected as u64,
+                    actual as u64,
+                    place as u64,
+                    0,
+                ],
             },
             Refusal::UnexpectedHeader {
                 expected,
@@ -163,10 +176,10 @@ impl Refusal {
                 number: 8,
                 count: 5,
                 values: [
-                    expected.0 as u64,
-                    actual.0 as u64,
-                    expected_units.0 as u64,
-                    actual_units.0 as u64,
+                    u64::from(expected.0),
+                    u64::from(actual.0),
+                    u64::from(expected_units.0),
+                    u64::from(actual_units.0),
                     place as u64,
                 ],
             },
@@ -178,12 +191,12 @@ impl Refusal {
             Refusal::KnownPair { kind, code } => Numbers {
                 number: 10,
                 count: 2,
-                values: [kind as u64, code as u64, 0, 0, 0],
+                values: [u64::from(kind), u64::from(code), 0, 0, 0],
             },
             Refusal::NotReceived { reason } => Numbers {
                 number: 11,
                 count: 1,
-                values: [reason as u64, 0, 0, 0, 0],
+                values: [u64::from(reason), 0, 0, 0, 0],
             },
             Refusal::NoMark { place } => Numbers {
                 number: 12,
@@ -252,24 +265,20 @@ impl Refusal {
     pub fn number(self) -> u8
         ensures { result ≡ number self }
     {
-        let n = self.numbers();
-        n.number
+        self.numbers().number
     }
 
     // How many numbers it carries.
     pub fn count(self) -> usize
         ensures { result ≡ length (values self) }
     {
-        let n = self.numbers();
-        n.count
+        self.numbers().count
     }
 
     // The i-th value, counted from 0; 0 past the last.
     pub fn value(self, i: usize) -> u64
         ensures { result ≡ get_or (values self) i 0 }
     {
-        let n = self.numbers();
-        let values = n.values;
-        if i < 5 { values[i] } else { 0 }
+        if i < 5 { self.numbers().values[i] } else { 0 }
     }
 }

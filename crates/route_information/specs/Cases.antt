@@ -4,7 +4,6 @@ use Rattle.std.specs.Prelude.{ℕ, ◌≡◌, List, [], ◌∷◌, ◌++◌, rep
 use Rattle.paper.specs.Paper.{refuses, gives}
 use Rattle.router_preference.specs.declared.RouterPreference.{RouterPreference}
 use Rattle.router_preference.specs.declared.RouterPreference.TheVariants.{Medium, High, Low}
-use Rattle.route_information.specs.declared.RouteInformation.{RouteInformation}
 use Rattle.route_information.specs.Route.{RouteTold, told_with, route_of, no_information}
 
 -- an option of this prefix length and flags, for 600 seconds; then its units of prefix

@@ -1,7 +1,8 @@
 -- docs/RULES.md O11 (RFC 4191, section 2.3): the route information option, read. An ignored one and a refused one say nothing.
 -- Assumes nothing.
-use Rattle.std.specs.Prelude.{ℕ, zero, suc, Bool, cond, ◌&&◌, List, [], ◌∷◌, eqb, get_or, replicate}
+use Rattle.std.specs.Prelude.{ℕ, zero, suc, Bool, cond, ◌&&◌, List, [], ◌∷◌, Result, Ok, Err, eqb, get_or, replicate}
 use Rattle.paper.specs.Paper.{Paper, gives}
+use Rattle.refusal.specs.declared.Refusal.{Refusal}
 use Rattle.refusal.specs.Paper.{refusal}
 use Rattle.packet_place.specs.Place.{placed}
 use Rattle.wire.specs.Wire.{word32_at}
@@ -10,8 +11,7 @@ use Rattle.router_preference.specs.declared.RouterPreference.TheVariants.{Medium
 use Rattle.ndp_option_second.specs.Rule.{judged_of}
 use Rattle.route_information.specs.declared.RouteInformation.{RouteInformation}
 use Rattle.route_information.specs.declared.RouteAnswer.{RouteAnswer}
-use Rattle.route_information.specs.declared.RouteAnswer.TheVariants.{Route, Ignored, Refused}
-use Rattle.route_information.specs.declared.RouteInformationRead.{RouteInformationRead}
+use Rattle.route_information.specs.declared.RouteAnswer.TheVariants.{Route, Ignored}
 
 -- n bytes from a place on, 0 for one that is not there
 abbrev pub bytes_from : ℕ → ℕ → List ℕ → List ℕ
@@ -40,13 +40,19 @@ abbrev pub told_with : Paper → RouteInformation → RouteTold
 told_with p i = record { paper = p; information = i }
 
 -- the kind that a walk hands it out as, and its place: 24 is a route, 0 an ignored one
-abbrev pub answer_told : RouteAnswer → Paper
-answer_told (Route place) = gives (24 ∷ place ∷ [])
-answer_told (Ignored place) = gives (0 ∷ place ∷ [])
-answer_told (Refused why) = refusal why
+abbrev pub answer_told : Result RouteAnswer Refusal → Paper
+answer_told (Ok (Route i place)) = gives (24 ∷ place ∷ [])
+answer_told (Ok (Ignored place)) = gives (0 ∷ place ∷ [])
+answer_told (Err why) = refusal why
 
-abbrev pub route_told : RouteInformationRead → RouteTold
-route_told r = told_with (answer_told r.answer) r.information
+-- what a route says
+abbrev pub said_by : Result RouteAnswer Refusal → RouteInformation
+said_by (Ok (Route i place)) = i
+said_by (Ok (Ignored place)) = no_information
+said_by (Err why) = no_information
+
+abbrev pub route_told : Result RouteAnswer Refusal → RouteTold
+route_told r = told_with (answer_told r) (said_by r)
 
 -- whether the rule answers that it is a route
 abbrev pub is_route : Paper → Bool

@@ -2,16 +2,15 @@
 #![tactic(auto)]
 
 ghost use Rattle.std.specs.Prelude.{◌≤◌, ◌≡◌, length, get_or};
-ghost use Rattle.route_information.specs.Route.{route_told, route_of, information_at, no_information, bytes_from};
+ghost use Rattle.route_information.specs.Route.{route_told, route_of, information_at, bytes_from};
 
-use ndp_option_second::SecondRead;
 use ndp_options::NdpOptionKind;
 use refusal::{NdpOptionType, Refusal};
 use router_preference::RouterPreference;
 
 const ROUTE_INFORMATION: NdpOptionType = NdpOptionType(24);
 
-#[derive(Clone, Copy)]
+#[derive(Clone, Copy, Debug, PartialEq, Eq)]
 pub struct RouteInformation {
     // How many leading bits of the prefix are valid: at most 128. Bits of the prefix behind them are not looked at.
     pub prefix_length: u8,
@@ -23,50 +22,20 @@ pub struct RouteInformation {
 }
 
 // With the option's place in the packet. Ignored: the preference is the reserved one, and nobody may use the route.
-#[derive(Clone, Copy)]
+#[derive(Clone, Copy, Debug, PartialEq, Eq)]
 pub enum RouteAnswer {
-    Route(usize),
+    Route(RouteInformation, usize),
     Ignored(usize),
-    Refused(Refusal),
-}
-
-// What the option says stands beside the answer, since no enum may hold an array. All 0 unless the answer is Route.
-#[derive(Clone, Copy)]
-pub struct RouteInformationRead {
-    pub answer: RouteAnswer,
-    pub information: RouteInformation,
 }
 
 // The option whose first byte is at an offset of the packet.
-pub fn from_slice(slice: &[u8], offset: usize) -> RouteInformationRead
+pub fn from_slice(slice: &[u8], offset: usize) -> Result<RouteAnswer, Refusal>
     ensures { route_told result ≡ route_of offset slice.now }
 {
-    match ndp_option_second::judged(ROUTE_INFORMATION, slice, offset) {
-        SecondRead::Handed(kind, place) => match kind {
-            NdpOptionKind::RouteInformation => RouteInformationRead {
-                answer: RouteAnswer::Route(place),
-                information: information_in(slice),
-            },
-            _ => RouteInformationRead {
-                answer: RouteAnswer::Ignored(place),
-                information: nothing(),
-            },
-        },
-        SecondRead::Refused(why) => RouteInformationRead {
-            answer: RouteAnswer::Refused(why),
-            information: nothing(),
-        },
-    }
-}
-
-fn nothing() -> RouteInformation
-    ensures { result ≡ no_information }
-{
-    RouteInformation {
-        prefix_length: 0,
-        preference: RouterPreference::Medium,
-        lifetime: 0,
-        prefix: [0; 16],
+    let (kind, place) = ndp_option_second::judged(ROUTE_INFORMATION, slice, offset)?;
+    match kind {
+        NdpOptionKind::RouteInformation => Ok(RouteAnswer::Route(information_in(slice), place)),
+        _ => Ok(RouteAnswer::Ignored(place)),
     }
 }
 
@@ -75,16 +44,15 @@ fn information_in(slice: &[u8]) -> RouteInformation
     requires { 8 ≤ length slice.now }
     ensures { result ≡ information_at slice.now }
 {
-    let preference = RouterPreference::of_flags(slice[3]);
-    let prefix = prefix_in(slice);
     RouteInformation {
         prefix_length: slice[2],
-        preference,
-        lifetime: wire::u32_from_be(slice[4], slice[5], slice[6], slice[7]),
-        prefix,
+        preference: RouterPreference::of_flags(slice[3]),
+        lifetime: u32::from_be_bytes([slice[4], slice[5], slice[6], slice[7]]),
+        prefix: prefix_in(slice),
     }
 }
 
+// Byte by byte: a route has none of them, 8 or 16, and a copy whose length varies would ask for a symbol from outside.
 fn prefix_in(slice: &[u8]) -> [u8; 16]
     ensures { result ≡ bytes_from 16 8 slice.now }
 {
@@ -108,9 +76,9 @@ fn prefix_in(slice: &[u8]) -> [u8; 16]
     ]
 }
 
-// A byte, and 0 past the last.
+// A byte, and 0 past the last: one line of std, private in each crate that needs it.
 fn byte_at(slice: &[u8], at: usize) -> u8
     ensures { result ≡ get_or slice.now at 0 }
 {
-    if at < slice.len() { slice[at] } else { 0 }
+    slice.get(at).copied().unwrap_or(0)
 }

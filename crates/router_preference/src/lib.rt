@@ -4,13 +4,14 @@
 ghost use Rattle.std.specs.Prelude.{◌≡◌};
 ghost use Rattle.router_preference.specs.Preference.{preference_bits, is_reserved, preference_of, preference_number};
 
-#[derive(Clone, Copy)]
+#[derive(Clone, Copy, Debug, PartialEq, Eq)]
 pub enum RouterPreference {
-    Medium,
-    High,
-    Low,
+    Medium = 0,
+    High = 1,
+    Low = 3,
 }
 
+// The bits that name no preference.
 const RESERVED: u8 = 2;
 
 // The two bits as a number.
@@ -43,10 +44,6 @@ impl RouterPreference {
     pub fn number(self) -> u8
         ensures { result ≡ preference_number self }
     {
-        match self {
-            RouterPreference::Medium => 0,
-            RouterPreference::High => 1,
-            RouterPreference::Low => 3,
-        }
+        self as u8
     }
 }

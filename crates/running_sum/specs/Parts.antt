@@ -1,10 +1,10 @@
 -- The sum of bytes that lie in several parts (RFC 1071, sections 2 (A) and 3; docs/RULES.md U4 to U9).
 -- Assumes nothing.
-use Rattle.std.specs.Prelude.{ℕ, ◌+◌, ◌%◌, Bool, false, cond, ◌≡◌, List, [], ◌∷◌, ◌++◌, eqb, length}
+use Rattle.std.specs.Prelude.{ℕ, ◌+◌, ◌%◌, Bool, false, cond, List, [], ◌∷◌, ◌++◌, eqb, length}
 use Rattle.paper.specs.Paper.{one_if}
 use Rattle.checksum.specs.Ones.{◌⊕◌, words, ones_sum}
 use Rattle.checksum.specs.Icmpv6.{pseudo_words}
-use Rattle.checksum.specs.Running.{Bytes, swapped}
+use Rattle.checksum.specs.Running.{swapped}
 use Rattle.running_sum.specs.declared.RunningSum.{RunningSum}
 
 abbrev pub is_odd : ℕ → Bool
@@ -47,8 +47,3 @@ a then b = record { sum = join_of a.sum (one_if a.odd) b.sum; odd = is_odd (one_
 abbrev pub pushed : RunningSum → List (List ℕ) → RunningSum
 pushed r [] = r
 pushed r (s ∷ parts) = pushed (r then over s) parts
-
--- what a private function says of a sum: that its bytes are bytes is for the caller
-pub record Over (s : List ℕ) (r : ℕ) : Type 0 where
-  pub sum : r ≡ ones_sum (words s)
-  pub bytes : Bytes s

@@ -4,10 +4,12 @@
 ghost use Rattle.std.specs.Prelude.{◌≡◌, []};
 ghost use Rattle.checksum.specs.Ones.{◌⊕◌, ones_sum};
 ghost use Rattle.checksum.specs.Icmpv6.{pseudo_words};
-ghost use Rattle.running_sum.specs.Parts.{join_of, over, ◌then◌, Over};
+ghost use Rattle.running_sum.specs.Parts.{join_of, over, ◌then◌};
+
+use addresses::Addresses;
 
 // The sum so far, and whether an odd number of bytes is in it.
-#[derive(Clone, Copy)]
+#[derive(Clone, Copy, Debug, PartialEq, Eq)]
 pub struct RunningSum {
     pub sum: u16,
     pub odd: bool,
@@ -17,7 +19,7 @@ pub struct RunningSum {
 pub fn add(a: u16, b: u16) -> u16
     ensures { result ≡ a ⊕ b }
 {
-    let t = (a as u32) + (b as u32);
+    let t = u32::from(a) + u32::from(b);
     (t % 65536 + t / 65536) as u16
 }
 
@@ -27,25 +29,21 @@ pub fn join(first: u16, first_len: usize, second: u16) -> u16
 {
     if first_len % 2 == 1 {
         // Behind an odd number of bytes every byte is in the other half of its word.
-        return add(first, second % 256 * 256 + second / 256);
+        return add(first, second.swap_bytes());
     }
     add(first, second)
 }
 
-// The sum of some bytes; that they are bytes is told to the caller.
-fn part(s: &[u8]) -> u16
-    ensures { Over s.now result }
-{
-    checksum::sum(s)
-}
-
 // The sum of the pseudo-header of a packet of `length` bytes, an even number of bytes by itself.
-pub fn pseudo(source: &[u8; 16], destination: &[u8; 16], length: u32) -> u16
-    ensures { result ≡ ones_sum (pseudo_words source.now destination.now length) }
+pub fn pseudo(addresses: Addresses, length: u32) -> u16
+    ensures { result ≡ ones_sum (pseudo_words addresses.source addresses.destination length) }
 {
-    let addresses = add(part(source), part(destination));
+    let sums = add(
+        checksum::sum(&addresses.source),
+        checksum::sum(&addresses.destination),
+    );
     add(
-        add(addresses, (length / 65536) as u16),
+        add(sums, (length / 65536) as u16),
         add((length % 65536) as u16, 58),
     )
 }
@@ -63,6 +61,7 @@ impl RunningSum {
         ensures { result ≡ self then later }
     {
         RunningSum {
+            // `as` of a bool: of `usize::from` the proof did not close.
             sum: join(self.sum, self.odd as usize, later.sum),
             odd: self.odd != later.odd,
         }

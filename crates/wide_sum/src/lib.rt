@@ -1,6 +1,7 @@
 // The sum of RFC 1071 by wider units than its words (docs/RULES.md Y1 to Y4): four bytes at a time, and 64 at a time with the carry taken along.
 // For machines of 64 bits: a total takes its own carry round (section 2 (C)), so every length has its sum; the two bytes of the folded total are
-// exchanged at the end (section 2 (B)).
+// exchanged at the end (section 2 (B)). The loops go by index: what they take in is promised of the bytes between two
+// places, and a rest of the bytes would need its place beside it.
 #![tactic(auto)]
 
 ghost use Rattle.std.specs.Prelude.{◌≡◌, ◌+◌, ◌*◌, ◌/◌, ◌%◌, ◌<◌, ◌≤◌, length, drop};
@@ -11,23 +12,26 @@ ghost use Rattle.checksum.specs.Told.{verdict};
 ghost use Rattle.packet_length.specs.Length.{limit};
 ghost use Rattle.wide_sum.specs.Units.{unit, Alike, Moves, Taken};
 
+use addresses::Addresses;
 use checksum::Verdict;
-use packet_length::PacketLength;
+use refusal::Refusal;
 
 // A total of 64 bits and the carry that is still to be added to it.
 #[derive(Clone, Copy)]
 struct Chain {
     low: u64,
     carry: u64,
+    ghost fits: { low + carry < 18446744073709551616 },
 }
 
 // Two bytes as a number, low byte first.
 fn pair(first: u8, second: u8) -> u64
     ensures { (result ≡ first + 256 * second) × (result < 65536) }
 {
-    (first as u64) + 256 * (second as u64)
+    u64::from(u16::from_le_bytes([first, second]))
 }
 
+// A function for each width, made of two of the half: a const argument cannot be computed, so no generic one could halve itself.
 fn two(s: &[u8], i: usize) -> u64
     requires { i + 2 ≤ length s.now }
     ensures { (result ≡ unit 2 s.now i) × (result < 65536) }
@@ -47,13 +51,6 @@ fn eight(s: &[u8], i: usize) -> u64
     ensures { result ≡ unit 8 s.now i }
 {
     four(s, i) + 4294967296 * four(s, i + 4)
-}
-
-// A sum modulo 2 ^ 64.
-fn wrap(a: u64, b: u64) -> u64
-    ensures { result ≡ (a + b) % 18446744073709551616 }
-{
-    std::num::wrapping_add_u64(a, b)
 }
 
 // What that sum left out: it is below b where it wrapped.
@@ -78,16 +75,13 @@ fn carry_out(part: u64, low: u64, w: u64, sum: u64, carry: u64) -> u64
 
 // A processor's addition with carry.
 fn add_with_carry(t: Chain, w: u64) -> Chain
-    requires { t.low + t.carry < 18446744073709551616 }
-    ensures { (result.low + 18446744073709551616 * result.carry ≡ t.low + t.carry + w) × (result.low + result.carry < 18446744073709551616) }
+    ensures { result.low + 18446744073709551616 * result.carry ≡ t.low + t.carry + w }
 {
-    let low = t.low;
-    let carry = t.carry;
-    let part = wrap(low, w);
-    let sum = wrap(part, carry);
+    let part = t.low.wrapping_add(w);
+    let sum = part.wrapping_add(t.carry);
     Chain {
         low: sum,
-        carry: carry_out(part, low, w, sum, carry),
+        carry: carry_out(part, t.low, w, sum, t.carry),
     }
 }
 
@@ -98,38 +92,35 @@ fn start(t: u64) -> Chain
 }
 
 fn close(t: Chain) -> u64
-    requires { t.low + t.carry < 18446744073709551616 }
     ensures { result ≡ t.low + t.carry }
 {
-    let low = t.low;
-    let carry = t.carry;
-    low + carry
+    t.low + t.carry
 }
 
 fn link(t: Chain, s: &[u8], i: usize) -> Chain
-    requires { (t.low + t.carry < 18446744073709551616) × (i + 8 ≤ length s.now) }
-    ensures { (result.low + result.carry < 18446744073709551616) × Moves s.now i (t.low + t.carry) (i + 8) (result.low + result.carry) }
+    requires { i + 8 ≤ length s.now }
+    ensures { Moves s.now i (t.low + t.carry) (i + 8) (result.low + result.carry) }
 {
     add_with_carry(t, eight(s, i))
 }
 
 fn link_two(t: Chain, s: &[u8], i: usize) -> Chain
-    requires { (t.low + t.carry < 18446744073709551616) × (i + 16 ≤ length s.now) }
-    ensures { (result.low + result.carry < 18446744073709551616) × Moves s.now i (t.low + t.carry) (i + 16) (result.low + result.carry) }
+    requires { i + 16 ≤ length s.now }
+    ensures { Moves s.now i (t.low + t.carry) (i + 16) (result.low + result.carry) }
 {
     link(link(t, s, i), s, i + 8)
 }
 
 fn link_four(t: Chain, s: &[u8], i: usize) -> Chain
-    requires { (t.low + t.carry < 18446744073709551616) × (i + 32 ≤ length s.now) }
-    ensures { (result.low + result.carry < 18446744073709551616) × Moves s.now i (t.low + t.carry) (i + 32) (result.low + result.carry) }
+    requires { i + 32 ≤ length s.now }
+    ensures { Moves s.now i (t.low + t.carry) (i + 32) (result.low + result.carry) }
 {
     link_two(link_two(t, s, i), s, i + 16)
 }
 
 fn link_eight(t: Chain, s: &[u8], i: usize) -> Chain
-    requires { (t.low + t.carry < 18446744073709551616) × (i + 64 ≤ length s.now) }
-    ensures { (result.low + result.carry < 18446744073709551616) × Moves s.now i (t.low + t.carry) (i + 64) (result.low + result.carry) }
+    requires { i + 64 ≤ length s.now }
+    ensures { Moves s.now i (t.low + t.carry) (i + 64) (result.low + result.carry) }
 {
     link_four(link_four(t, s, i), s, i + 32)
 }
@@ -175,28 +166,21 @@ fn half_64(t: u64) -> u32
     ensures { folded result ≡ folded t }
 {
     let exchanged = t % 4294967296 * 4294967296 + t / 4294967296;
-    (std::num::wrapping_add_u64(t, exchanged) / 4294967296) as u32
+    (t.wrapping_add(exchanged) / 4294967296) as u32
 }
 
 fn half_32(t: u32) -> u16
     ensures { result ≡ folded t }
 {
     let exchanged = t % 65536 * 65536 + t / 65536;
-    (std::num::wrapping_add_u32(t, exchanged) / 65536) as u16
-}
-
-// A 16-bit number with its two bytes exchanged.
-fn swap(n: u16) -> u16
-    ensures { result ≡ swapped n }
-{
-    n % 256 * 256 + n / 256
+    (t.wrapping_add(exchanged) / 65536) as u16
 }
 
 // The sum that a total in memory order comes to.
 fn finish(t: u64) -> u16
     ensures { result ≡ swapped (folded t) }
 {
-    swap(half_32(half_64(t)))
+    half_32(half_64(t)).swap_bytes()
 }
 
 // A total with what is left from i on taken in, one byte at most.
@@ -265,17 +249,13 @@ pub fn sum_by_fours(bytes: &[u8]) -> u16
     finish(add_last(t, bytes, i))
 }
 
-// What `checksum::sum` answers: 64 bytes at a time as one chain of carries, then 32, 8 and 2.
-pub fn sum_by_sixty_fours(bytes: &[u8]) -> u16
-    ensures { result ≡ ones_sum (words bytes.now) }
+// A total with what is left from a place on taken in: 32 bytes at a time, then 8 and 2, and the last one.
+fn add_rest(from: u64, bytes: &[u8], at: usize) -> u64
+    requires { at ≤ length bytes.now }
+    ensures { folded result ≡ folded (from + low_first (drop at bytes.now)) }
 {
-    let mut t = 0;
-    let mut i = 0;
-    let end = bytes.len() / 64 * 64;
-    while i < end {
-        t = add_64(t, bytes, i);
-        i += 64;
-    }
+    let mut t = from;
+    let mut i = at;
     while bytes.len() - i >= 32 {
         t = add_32(t, bytes, i);
         i += 32;
@@ -288,7 +268,21 @@ pub fn sum_by_sixty_fours(bytes: &[u8]) -> u16
         t = around(t, two(bytes, i));
         i += 2;
     }
-    finish(add_last(t, bytes, i))
+    add_last(t, bytes, i)
+}
+
+// What `checksum::sum` answers: 64 bytes at a time as one chain of carries, then 32, 8 and 2.
+pub fn sum_by_sixty_fours(bytes: &[u8]) -> u16
+    ensures { result ≡ ones_sum (words bytes.now) }
+{
+    let mut t = 0;
+    let mut i = 0;
+    let end = bytes.len() / 64 * 64;
+    while i < end {
+        t = add_64(t, bytes, i);
+        i += 64;
+    }
+    finish(add_rest(t, bytes, i))
 }
 
 // A total with some bytes taken in, 64 at a time as two chains of 32 that do not wait for each other, then 32, 8 and 2.
@@ -304,20 +298,7 @@ fn add_by_two_chains(from: u64, bytes: &[u8]) -> u64
         u = add_32(u, bytes, i + 32);
         i += 64;
     }
-    t = around(t, u);
-    while bytes.len() - i >= 32 {
-        t = add_32(t, bytes, i);
-        i += 32;
-    }
-    while bytes.len() - i >= 8 {
-        t = add_8(t, bytes, i);
-        i += 8;
-    }
-    while bytes.len() - i >= 2 {
-        t = around(t, two(bytes, i));
-        i += 2;
-    }
-    add_last(t, bytes, i)
+    add_rest(around(t, u), bytes, i)
 }
 
 // What `checksum::sum` answers, by two chains.
@@ -335,28 +316,24 @@ fn add_address(from: u64, address: &[u8; 16]) -> u64
 }
 
 // The sum of the pseudo-header and a packet: one total takes in both addresses and the packet, and the rest comes to it once it is folded.
-fn packet_sum(packet: &[u8], source: &[u8; 16], destination: &[u8; 16], n: u32) -> u16
+fn packet_sum(packet: &[u8], addresses: Addresses, n: u32) -> u16
     requires { (n ≡ length packet.now) × (length packet.now ≤ limit) }
-    ensures { result ≡ sum_of source.now destination.now packet.now }
+    ensures { result ≡ sum_of addresses.source addresses.destination packet.now }
 {
-    let addresses = add_address(add_address(0, source), destination);
-    let bytes = finish(add_by_two_chains(addresses, packet)) as u32;
+    let both = add_address(add_address(0, &addresses.source), &addresses.destination);
+    let bytes = u32::from(finish(add_by_two_chains(both, packet)));
     half_32(bytes + n / 65536 + n % 65536 + 58)
 }
 
 // What `checksum::verify` answers, for machines of 64 bits.
-pub fn verify_by_fours(packet: &[u8], source: &[u8; 16], destination: &[u8; 16]) -> Verdict
-    ensures { verdict result ≡ verdict_of source.now destination.now packet.now }
+pub fn verify_by_fours(packet: &[u8], addresses: Addresses) -> Result<Verdict, Refusal>
+    ensures { verdict result ≡ verdict_of addresses.source addresses.destination packet.now }
 {
     let n = packet.len();
-    match packet_length::check_len(n) {
-        PacketLength::Refused(why) => Verdict::Refused(why),
-        PacketLength::Fits => {
-            if packet_sum(packet, source, destination, n as u32) == 65535 {
-                Verdict::Valid
-            } else {
-                Verdict::Invalid
-            }
-        }
+    packet_length::check_len(n)?;
+    if packet_sum(packet, addresses, n as u32) == 65535 {
+        Ok(Verdict::Valid)
+    } else {
+        Ok(Verdict::Invalid)
     }
 }

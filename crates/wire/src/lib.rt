@@ -1,4 +1,5 @@
-// Numbers of several bytes, the high byte first, and the flags of a byte, as every header on the wire has them; and what bytes begin with.
+// Numbers of several bytes, the high byte first, and the flags of a byte, as every header on the wire has them; and what bytes begin with. The first four are
+// std's own, under the names that docs/PROMISES.md has: public functions stay.
 #![tactic(auto)]
 
 ghost use Rattle.std.specs.Prelude.{◌≡◌};
@@ -8,40 +9,32 @@ ghost use Rattle.wire.specs.Prefix.{begins};
 pub fn u16_from_be(a: u8, b: u8) -> u16
     ensures { result ≡ word16 a b }
 {
-    256 * (a as u16) + (b as u16)
+    u16::from_be_bytes([a, b])
 }
 
 pub fn u32_from_be(a: u8, b: u8, c: u8, d: u8) -> u32
     ensures { result ≡ word32 a b c d }
 {
-    16777216 * (a as u32) + 65536 * (b as u32) + 256 * (c as u32) + (d as u32)
+    u32::from_be_bytes([a, b, c, d])
 }
 
 pub fn u16_to_be(x: u16) -> [u8; 2]
     ensures { result ≡ bytes16 x }
 {
-    [(x / 256 % 256) as u8, (x % 256) as u8]
+    u16::to_be_bytes(x)
 }
 
 pub fn u32_to_be(x: u32) -> [u8; 4]
     ensures { result ≡ bytes32 x }
 {
-    [
-        (x / 16777216 % 256) as u8,
-        (x / 65536 % 256) as u8,
-        (x / 256 % 256) as u8,
-        (x % 256) as u8,
-    ]
+    u32::to_be_bytes(x)
 }
 
 // Whether the flag of a weight, a power of two, is set in a byte. No for weight 0.
 pub fn has_flag(x: u8, weight: u8) -> bool
     ensures { result ≡ has_flag x weight }
 {
-    if weight == 0 {
-        return false;
-    }
-    x / weight % 2 == 1
+    weight != 0 && x / weight % 2 == 1
 }
 
 // The weight of a flag if it is set, else 0.
@@ -56,15 +49,14 @@ pub fn flag_of(set: bool, weight: u8) -> u8
 pub fn begins_with(bytes: &[u8], prefix: &[u8]) -> bool
     ensures { result ≡ begins prefix.now bytes.now }
 {
+    // Not by `starts_with`: it brings half a KiB of code into every call for C that looks at an address.
     if bytes.len() < prefix.len() {
         return false;
     }
-    let mut i = 0;
-    while i < prefix.len() {
+    for i in 0..prefix.len() {
         if bytes[i] != prefix[i] {
             return false;
         }
-        i += 1;
     }
     true
 }

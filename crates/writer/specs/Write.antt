@@ -2,7 +2,7 @@
 -- Assumes nothing.
 use Rattle.std.specs.Prelude.{ℕ, ◌+◌, cond, ◌≡◌, List, [], ◌∷◌, ◌++◌, ltb, length, take, drop}
 use Rattle.paper.specs.Paper.{Paper, refuses, gives, ◌or_else◌}
-use Rattle.refusal.specs.Paper.{refusal}
+use Rattle.refusal.specs.Told.{told}
 use Rattle.icmpv6_type.specs.declared.Icmpv6Type.{Icmpv6Type}
 use Rattle.icmpv6_type.specs.Value.{kind_number, type_number, code_number}
 use Rattle.icmpv6_type.specs.Reserved.{misnamed}
@@ -12,11 +12,9 @@ use Rattle.icmpv6_checksum.specs.Header.{with_sum}
 use Rattle.icmpv6_payload_slice.specs.Dispatch.{options_at, options_in, by_value}
 use Rattle.ndp_options.specs.declared.Edition.{Edition}
 use Rattle.ndp_option_list.specs.Whole.{count_of}
-use Rattle.output.specs.declared.Written.{Written}
-use Rattle.output.specs.declared.Written.TheVariants as output
 use Rattle.output.specs.Output.{leaves, room_for}
-use Rattle.writer.specs.declared.Sendable.{Sendable}
-use Rattle.writer.specs.declared.Sendable.TheVariants.{Yes, Refused}
+use Rattle.std.specs.Prelude.{Result, Ok, Err}
+use Rattle.refusal.specs.declared.Refusal.{Refusal}
 
 -- the option bytes, where the dispatch places them: none unless the value is of types 133 to 137
 abbrev pub payload_options : Icmpv6Type → List ℕ → List ℕ
@@ -50,11 +48,11 @@ abbrev pub output_by : Edition → Way → Icmpv6Header → List ℕ → List �
 output_by e w h source destination payload out =
     leaves (write_of e h.icmp_type payload out) out 0 (packet_by w source destination h payload)
 
-abbrev pub sendable_told : Sendable → Paper
-sendable_told Yes = gives []
-sendable_told (Refused why) = refusal why
+-- that a payload may be sent, or why not
+abbrev pub sendable_told : Result (Unit {0}) Refusal → Paper
+sendable_told answer = told (λ sent. []) answer
 
 -- what the output then holds, by the answer: the packet, whose length is told, and behind it what stood there; where it refuses, all as it was
-abbrev pub Holds : Written → List ℕ → List ℕ → List ℕ → Type 0
-Holds (output.To n) packet before after = (n ≡ length packet) × (take n after ≡ packet) × (drop n after ≡ drop n before)
-Holds (output.Refused why) packet before after = after ≡ before
+abbrev pub Holds : Result ℕ Refusal → List ℕ → List ℕ → List ℕ → Type 0
+Holds (Ok n) packet before after = (n ≡ length packet) × (take n after ≡ packet) × (drop n after ≡ drop n before)
+Holds (Err why) packet before after = after ≡ before
