@@ -64,6 +64,7 @@ fn find_quote(s: &[u8], place: usize, edition: Edition) -> Result<Found, Refusal
             quote: None,
         });
     }
+    // The errors: their types are the known ones below 5 (RFC 4443, section 2.1).
     if kind < 5 {
         let span = Span {
             from: place + 8,

@@ -1,5 +1,6 @@
 // The receive check of RFC 4861 for Neighbor Discovery (sections 6.1.1, 6.1.2, 7.1.1, 7.1.2 and 8.1); of all other packets the checksum alone is
-// tested. A packet is opened once and summed once, and what was opened is handed on.
+// tested. A packet is opened once and summed once, and what was opened is handed on. The packet, its hop limit and its addresses stay three
+// parameters: of a struct that borrows the packet each promise would name its two moments.
 #![tactic(auto)]
 
 ghost use Rattle.std.specs.Prelude.{◌≡◌, not, ◌&&◌, ◌≤◌, eqb, length, get_or, drop};
@@ -128,6 +129,7 @@ fn is_far(packet: &[u8], hop_limit: u8) -> bool
     if hop_limit == 255 {
         return false;
     }
+    // By a match: in one condition the proof did not close.
     match check_len(packet.len()) {
         Ok(()) => is_ndp(packet[0]),
         Err(_) => false,
@@ -138,6 +140,7 @@ fn is_far(packet: &[u8], hop_limit: u8) -> bool
 pub fn judge(packet: &[u8], hop_limit: u8, addresses: Addresses, edition: Edition) -> Judged
     ensures { packet_judged_told result ≡ judged_of edition hop_limit addresses.source addresses.destination packet.now }
 {
+    // By a match: a length that is refused is told in the answer, which is no `Result`.
     match check_len(packet.len()) {
         Err(why) => Judged {
             opened: Err(why),

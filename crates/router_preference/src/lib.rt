@@ -33,6 +33,7 @@ impl RouterPreference {
     pub fn of_flags(flags: u8) -> RouterPreference
         ensures { preference_number result ≡ preference_of flags }
     {
+        // By the bits of the wire (RFC 4191, section 2.1): two of the four mean medium.
         match bits_of(flags) {
             1 => RouterPreference::High,
             3 => RouterPreference::Low,
