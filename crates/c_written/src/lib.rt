@@ -2,7 +2,8 @@
 #![tactic(auto)]
 
 ghost use Rattle.std.specs.Prelude.{◌≡◌};
-ghost use Rattle.c_written.specs.Written.{header_of_word};
+ghost use Rattle.output.specs.Output.{written_told};
+ghost use Rattle.c_written.specs.Written.{header_of_word, written_for};
 
 use icmpv6::icmpv6_header::Icmpv6Header;
 use icmpv6_type::Icmpv6Type;
@@ -29,6 +30,33 @@ pub fn header_of(type_u8: u8, code_u8: u8, bytes5to8: u32) -> Icmpv6Header
 }
 
 // The writer's answer as numbers.
+#[inline(always)]
+#[tactic(auto, using(crate::proofs::Numbered::numbered), unfolding(crate::specs::Written::written_for))]
+pub fn told(answer: Result<usize, Refusal>) -> Written
+    ensures { result ≡ written_for (written_told answer) }
+{
+    // Each arm returns: an answer is then written straight to where it goes (docs/BENCHMARKS.md).
+    match answer {
+        Ok(length) => return Written {
+            answer: c_answer::WRITTEN,
+            refusal: 0,
+            value: [0; 5],
+            length,
+        },
+        Err(why) => {
+            let n = why.numbers();
+            let value = n.values;
+            return Written {
+                answer: c_answer::REFUSED,
+                refusal: u32::from(n.number),
+                value,
+                length: 0,
+            };
+        }
+    }
+}
+
+// The same, for `into`.
 impl From<Result<usize, Refusal>> for Written {
     ghost use Rattle.std.specs.Prelude.{◌≡◌};
     ghost use Rattle.output.specs.Output.{written_told};
@@ -37,26 +65,7 @@ impl From<Result<usize, Refusal>> for Written {
     ghost from_gives = { λ answer x. x ≡ written_for (written_told answer) };
 
     #[inline(always)]
-    #[tactic(auto, using(crate::proofs::Numbered::numbered), unfolding(crate::specs::Written::written_for))]
     fn from(answer: Result<usize, Refusal>) -> Written {
-        // Each arm returns: an answer is then written straight to where it goes (docs/BENCHMARKS.md).
-        match answer {
-            Ok(length) => return Written {
-                answer: c_answer::WRITTEN,
-                refusal: 0,
-                value: [0; 5],
-                length,
-            },
-            Err(why) => {
-                let n = why.numbers();
-                let value = n.values;
-                return Written {
-                    answer: c_answer::REFUSED,
-                    refusal: u32::from(n.number),
-                    value,
-                    length: 0,
-                };
-            }
-        }
+        told(answer)
     }
 }
