@@ -2,7 +2,7 @@
 #![tactic(auto)]
 
 ghost use Rattle.std.specs.Prelude.{◌≡◌};
-ghost use Rattle.message_table.specs.Table.{row_of, known, fixed_len, is_ndp};
+ghost use Rattle.message_table.specs.Table.{rows, row_of, known, fixed_len, is_ndp};
 
 pub mod types;
 
@@ -73,15 +73,18 @@ pub const ROWS: [Row; 11] = [
 ];
 
 // The row of a type. A type that the table does not have gets a row without codes and without a fixed part.
-// A function of its own in compiled code: written into each caller it takes a packet's writer over 4 KiB.
-#[inline(never)]
-fn row_of(rows: &[Row], kind: u8) -> Row
-    ensures { result ≡ row_of rows.now kind }
+// By places in the table, and not by `for`: of these the compiler makes a choice by numbers, where it would search in each call (docs/DESIGN-PASS.md).
+fn row_of(kind: u8) -> Row
+    ensures { result ≡ row_of rows kind }
 {
-    for row in rows {
+    let rows = ROWS;
+    let mut i: usize = 0;
+    while i < 11 {
+        let row = rows[i];
         if row.kind == kind {
-            return *row;
+            return row;
         }
+        i += 1;
     }
     Row {
         kind,
@@ -95,7 +98,7 @@ fn row_of(rows: &[Row], kind: u8) -> Row
 pub fn is_known(kind: u8, code: u8) -> bool
     ensures { result ≡ known kind code }
 {
-    code < row_of(&ROWS, kind).codes
+    code < row_of(kind).codes
 }
 
 // The length of a type's fixed part, whatever the code; 0 if the table does not have the type.
@@ -103,7 +106,7 @@ pub fn is_known(kind: u8, code: u8) -> bool
 pub fn fixed_len(kind: u8) -> usize
     ensures { result ≡ fixed_len kind }
 {
-    row_of(&ROWS, kind).fixed
+    row_of(kind).fixed
 }
 
 // Whether a type is one of Neighbor Discovery: their numbers stand in a row.
