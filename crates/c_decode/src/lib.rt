@@ -32,11 +32,11 @@ fn fields_of(kind: u8, word: u32) -> [u32; 4]
     match kind {
         types::TYPE_PACKET_TOO_BIG | types::TYPE_PARAMETER_PROBLEM => [word, 0, 0, 0],
         types::TYPE_ECHO_REQUEST | types::TYPE_ECHO_REPLY => {
-            let h = IcmpEchoHeader::from_bytes(word.to_be_bytes());
+            let h = IcmpEchoHeader::from_bytes(wire::u32_to_be(word));
             [u32::from(h.id), u32::from(h.seq), 0, 0]
         }
         types::TYPE_ROUTER_ADVERTISEMENT => {
-            let h = RouterAdvertisementHeader::from_bytes(word.to_be_bytes());
+            let h = RouterAdvertisementHeader::from_bytes(wire::u32_to_be(word));
             [
                 u32::from(h.cur_hop_limit),
                 u32::from(h.managed_address_config),
@@ -45,7 +45,7 @@ fn fields_of(kind: u8, word: u32) -> [u32; 4]
             ]
         }
         types::TYPE_NEIGHBOR_ADVERTISEMENT => {
-            let h = NeighborAdvertisementHeader::from_bytes(word.to_be_bytes());
+            let h = NeighborAdvertisementHeader::from_bytes(wire::u32_to_be(word));
             [
                 u32::from(h.router),
                 u32::from(h.solicited),
@@ -61,8 +61,8 @@ fn head_of(kind: u8, code: u8, packet: &[u8]) -> Head
     requires { 8 ≤ length packet.now }
     ensures { result ≡ head_at kind code packet.now }
 {
-    let checksum = u16::from_be_bytes([packet[2], packet[3]]);
-    let word = u32::from_be_bytes([packet[4], packet[5], packet[6], packet[7]]);
+    let checksum = wire::u16_from_be(packet[2], packet[3]);
+    let word = wire::u32_from_be(packet[4], packet[5], packet[6], packet[7]);
     if message_table::is_known(kind, code) {
         let field = fields_of(kind, word);
         return Head {

@@ -23,7 +23,7 @@ pub fn header_of(type_u8: u8, code_u8: u8, bytes5to8: u32) -> Icmpv6Header
     ensures { result ≡ header_of_word type_u8 code_u8 bytes5to8 }
 {
     Icmpv6Header {
-        icmp_type: Icmpv6Type::from_parts(type_u8, code_u8, bytes5to8.to_be_bytes()),
+        icmp_type: Icmpv6Type::from_parts(type_u8, code_u8, wire::u32_to_be(bytes5to8)),
         checksum: 0,
         bytes5to8,
     }

@@ -60,7 +60,7 @@ fn first_record(left: &[u8], at: usize, place: u64) -> Result<Option<Record>, Re
     if left.len() < HEAD_LEN {
         return Err(Refusal::CaptureEnds { place });
     }
-    let len = usize::from(u16::from_be_bytes([left[35], left[36]]));
+    let len = usize::from(wire::u16_from_be(left[35], left[36]));
     if !allowed(wire::begins_with(left, b"I7"), len) {
         return Err(Refusal::LongRecord { length: len });
     }

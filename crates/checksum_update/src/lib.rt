@@ -22,7 +22,7 @@ fn word_at(packet: &[u8], place: usize) -> u16
     requires { place + 1 < length packet.now }
     ensures { result ≡ word16_at packet.now place }
 {
-    u16::from_be_bytes([packet[place], packet[place + 1]])
+    wire::u16_from_be(packet[place], packet[place + 1])
 }
 
 // RFC 1624, equation 3.

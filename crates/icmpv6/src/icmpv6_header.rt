@@ -42,8 +42,8 @@ impl Icmpv6Header {
         let rest = [packet[4], packet[5], packet[6], packet[7]];
         Ok(Self {
             icmp_type: Icmpv6Type::from_parts(packet[0], packet[1], rest),
-            checksum: u16::from_be_bytes([packet[2], packet[3]]),
-            bytes5to8: u32::from_be_bytes(rest),
+            checksum: wire::u16_from_be(packet[2], packet[3]),
+            bytes5to8: wire::u32_from_be(rest[0], rest[1], rest[2], rest[3]),
         })
     }
 
@@ -58,7 +58,7 @@ impl Icmpv6Header {
     fn with_kept(self, kept: u32) -> [u8; 8]
         ensures { result ≡ encode_with kept self }
     {
-        let [s, t] = self.checksum.to_be_bytes();
+        let [s, t] = wire::u16_to_be(self.checksum);
         let [a, b, c, d] = self.icmp_type.bytes5to8_keeping(kept);
         [
             self.icmp_type.type_u8(),
@@ -100,7 +100,7 @@ impl Icmpv6Header {
     {
         match self.icmp_type {
             Icmpv6Type::RouterAdvertisement(_) => {
-                let [_, flags, _, _] = self.bytes5to8.to_be_bytes();
+                let [_, flags, _, _] = wire::u32_to_be(self.bytes5to8);
                 RouterPreference::of_flags(flags)
             }
             _ => RouterPreference::Medium,

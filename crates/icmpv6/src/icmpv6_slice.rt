@@ -20,8 +20,8 @@ pub fn head_parts(packet: &[u8]) -> Result<HeadParts, Refusal>
     Ok(HeadParts {
         type_u8: packet[0],
         code_u8: packet[1],
-        checksum: u16::from_be_bytes([packet[2], packet[3]]),
-        bytes5to8: u32::from_be_bytes([packet[4], packet[5], packet[6], packet[7]]),
+        checksum: wire::u16_from_be(packet[2], packet[3]),
+        bytes5to8: wire::u32_from_be(packet[4], packet[5], packet[6], packet[7]),
     })
 }
 

@@ -14,16 +14,16 @@ impl IcmpEchoHeader {
     {
         let [a, b, c, d] = bytes;
         Self {
-            id: u16::from_be_bytes([a, b]),
-            seq: u16::from_be_bytes([c, d]),
+            id: wire::u16_from_be(a, b),
+            seq: wire::u16_from_be(c, d),
         }
     }
 
     pub fn to_bytes(self) -> [u8; 4]
         ensures { result ≡ echo_bytes self }
     {
-        let [a, b] = self.id.to_be_bytes();
-        let [c, d] = self.seq.to_be_bytes();
+        let [a, b] = wire::u16_to_be(self.id);
+        let [c, d] = wire::u16_to_be(self.seq);
         [a, b, c, d]
     }
 }

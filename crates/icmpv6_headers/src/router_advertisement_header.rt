@@ -23,7 +23,7 @@ impl RouterAdvertisementHeader {
             cur_hop_limit,
             managed_address_config: wire::has_flag(flags, Self::MANAGED_ADDRESS_CONFIG_MASK),
             other_config: wire::has_flag(flags, Self::OTHER_CONFIG_MASK),
-            router_lifetime: u16::from_be_bytes([a, b]),
+            router_lifetime: wire::u16_from_be(a, b),
         }
     }
 
@@ -35,7 +35,7 @@ impl RouterAdvertisementHeader {
             Self::MANAGED_ADDRESS_CONFIG_MASK,
         );
         let other = wire::flag_of(self.other_config, Self::OTHER_CONFIG_MASK);
-        let [a, b] = self.router_lifetime.to_be_bytes();
+        let [a, b] = wire::u16_to_be(self.router_lifetime);
         [self.cur_hop_limit, managed + other, a, b]
     }
 }

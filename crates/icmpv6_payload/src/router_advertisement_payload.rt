@@ -19,8 +19,8 @@ impl RouterAdvertisementPayload {
     {
         let [r0, r1, r2, r3, t0, t1, t2, t3] = bytes;
         Self {
-            reachable_time: u32::from_be_bytes([r0, r1, r2, r3]),
-            retrans_timer: u32::from_be_bytes([t0, t1, t2, t3]),
+            reachable_time: wire::u32_from_be(r0, r1, r2, r3),
+            retrans_timer: wire::u32_from_be(t0, t1, t2, t3),
         }
     }
 
@@ -34,8 +34,8 @@ impl RouterAdvertisementPayload {
     pub fn to_bytes(self) -> [u8; 8]
         ensures { result ≡ timers_bytes self }
     {
-        let [a, b, c, d] = self.reachable_time.to_be_bytes();
-        let [e, f, g, h] = self.retrans_timer.to_be_bytes();
+        let [a, b, c, d] = wire::u32_to_be(self.reachable_time);
+        let [e, f, g, h] = wire::u32_to_be(self.retrans_timer);
         [a, b, c, d, e, f, g, h]
     }
 }

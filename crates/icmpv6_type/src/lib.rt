@@ -50,7 +50,7 @@ impl Icmpv6Type {
     pub fn from_parts(type_u8: u8, code_u8: u8, bytes5to8: [u8; 4]) -> Icmpv6Type
         ensures { type_told result ≡ type_of type_u8 code_u8 bytes5to8 }
     {
-        let all = u32::from_be_bytes(bytes5to8);
+        let all = wire::u32_from_be(bytes5to8[0], bytes5to8[1], bytes5to8[2], bytes5to8[3]);
         let other = Icmpv6Type::Unknown {
             type_u8,
             code_u8,
@@ -152,9 +152,9 @@ impl Icmpv6Type {
         ensures { result ≡ field_bytes self }
     {
         match self {
-            Icmpv6Type::Unknown { bytes5to8, .. } => bytes5to8.to_be_bytes(),
-            Icmpv6Type::PacketTooBig { mtu } => mtu.to_be_bytes(),
-            Icmpv6Type::ParameterProblem(header) => header.pointer.to_be_bytes(),
+            Icmpv6Type::Unknown { bytes5to8, .. } => wire::u32_to_be(bytes5to8),
+            Icmpv6Type::PacketTooBig { mtu } => wire::u32_to_be(mtu),
+            Icmpv6Type::ParameterProblem(header) => wire::u32_to_be(header.pointer),
             Icmpv6Type::EchoRequest(echo) | Icmpv6Type::EchoReply(echo) => echo.to_bytes(),
             Icmpv6Type::RouterAdvertisement(header) => header.to_bytes(),
             Icmpv6Type::NeighborAdvertisement(header) => header.to_bytes(),
@@ -171,7 +171,7 @@ impl Icmpv6Type {
         ensures { result ≡ keeping self (bytes32 kept) }
     {
         let f = self.bytes5to8();
-        let k = kept.to_be_bytes();
+        let k = wire::u32_to_be(kept);
         match self {
             Icmpv6Type::DestinationUnreachable(_)
             | Icmpv6Type::TimeExceeded(_)

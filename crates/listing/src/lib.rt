@@ -113,7 +113,7 @@ fn put_head(
     let line = Line::Head {
         kind,
         code: packet[1],
-        sum: u16::from_be_bytes([packet[2], packet[3]]),
+        sum: wire::u16_from_be(packet[2], packet[3]),
         ok,
         len: packet.len() as u64,
         recv: u64::from(reason.map_or(0, Reason::number)),

@@ -20,7 +20,7 @@ impl MtuOption {
         ensures { mtu_told result ≡ placed offset slice.now (mtu_of slice.now) }
     {
         let place = ndp_option_read::exactly(MTU, LENGTH_UNITS, slice, offset)?;
-        let mtu = u32::from_be_bytes([slice[4], slice[5], slice[6], slice[7]]);
+        let mtu = wire::u32_from_be(slice[4], slice[5], slice[6], slice[7]);
         Ok(MtuOption { mtu, place })
     }
 }

@@ -38,7 +38,7 @@ pub fn put_mtu(mtu: u32, out: &mut [u8], at: usize) -> Result<usize, Refusal>
     ensures answers { written_told result ≡ room_for 8 out.old at }
     ensures lent { out.new ≡ leaves (room_for 8 out.old at) out.old at (mtu_bytes mtu) }
 {
-    let [a, b, c, d] = mtu.to_be_bytes();
+    let [a, b, c, d] = wire::u32_to_be(mtu);
     output::put(out, at, &[5, 1, 0, 0, a, b, c, d])
 }
 

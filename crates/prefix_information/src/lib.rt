@@ -51,8 +51,8 @@ impl PrefixInformation {
                 self.autonomous_address_configuration,
                 AUTONOMOUS_ADDRESS_CONFIGURATION_MASK,
             );
-        let valid = self.valid_lifetime.to_be_bytes();
-        let preferred = self.preferred_lifetime.to_be_bytes();
+        let valid = wire::u32_to_be(self.valid_lifetime);
+        let preferred = wire::u32_to_be(self.preferred_lifetime);
         let prefix = self.prefix;
         [
             3,
@@ -104,8 +104,8 @@ fn information_in(slice: &[u8]) -> PrefixInformation
             flags,
             AUTONOMOUS_ADDRESS_CONFIGURATION_MASK,
         ),
-        valid_lifetime: u32::from_be_bytes([slice[4], slice[5], slice[6], slice[7]]),
-        preferred_lifetime: u32::from_be_bytes([slice[8], slice[9], slice[10], slice[11]]),
+        valid_lifetime: wire::u32_from_be(slice[4], slice[5], slice[6], slice[7]),
+        preferred_lifetime: wire::u32_from_be(slice[8], slice[9], slice[10], slice[11]),
         prefix: prefix_in(slice),
     }
 }

@@ -31,7 +31,7 @@ pub fn write_record(
     out[2] = hop_limit;
     out[3..19].copy_from_slice(&addresses.source);
     out[19..35].copy_from_slice(&addresses.destination);
-    out[35..HEAD_LEN].copy_from_slice(&(len as u16).to_be_bytes());
+    out[35..HEAD_LEN].copy_from_slice(&wire::u16_to_be(len as u16));
     out[HEAD_LEN..needed].copy_from_slice(packet);
     Ok(needed)
 }

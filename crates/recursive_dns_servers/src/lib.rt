@@ -35,7 +35,7 @@ pub fn from_slice(slice: &[u8], offset: usize) -> Result<RecursiveDnsServers, Re
 {
     let (_, place) = ndp_option_second::judged(RECURSIVE_DNS_SERVERS, slice, offset)?;
     Ok(RecursiveDnsServers {
-        lifetime: u32::from_be_bytes([slice[4], slice[5], slice[6], slice[7]]),
+        lifetime: wire::u32_from_be(slice[4], slice[5], slice[6], slice[7]),
         count: count_in(slice),
         place,
     })

@@ -47,7 +47,7 @@ fn information_in(slice: &[u8]) -> RouteInformation
     RouteInformation {
         prefix_length: slice[2],
         preference: RouterPreference::of_flags(slice[3]),
-        lifetime: u32::from_be_bytes([slice[4], slice[5], slice[6], slice[7]]),
+        lifetime: wire::u32_from_be(slice[4], slice[5], slice[6], slice[7]),
         prefix: prefix_in(slice),
     }
 }

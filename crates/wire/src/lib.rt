@@ -1,5 +1,5 @@
 // Numbers of several bytes, the high byte first, and the flags of a byte, as every header on the wire has them; and what bytes begin with. The first four are
-// std's own, under the names that docs/PROMISES.md has: public functions stay.
+// std's own, with the promise of docs/RULES.md H2 on them: by these the numbers of heads, fixed parts, options and records are read and written.
 #![tactic(auto)]
 
 ghost use Rattle.std.specs.Prelude.{◌≡◌};

@@ -74,7 +74,7 @@ fn write_kept(
     let mut head = header.to_bytes_keeping();
     // Never refused: the payload is within the sum's limit.
     let sum = checksum::checksum_of(head, payload, addresses)?;
-    head[2..4].copy_from_slice(&sum.to_be_bytes());
+    head[2..4].copy_from_slice(&wire::u16_to_be(sum));
     let _ = output::put(out, 0, &head);
     output::put(out, 8, payload)
 }
