@@ -127,7 +127,7 @@ impl Iterator for Records<'_> {
 
     type Item = Result<Record, Refusal>;
 
-    ghost next_gives = { λ s r t. GivesRecord s.capture.now s.at r t.at };
+    ghost next_gives = { λ s r t. (t.capture ≡ s.capture) × GivesRecord s.capture.now s.at r t.at };
 
     ghost remaining = { λ s. left_from s.capture.now s.at };
 

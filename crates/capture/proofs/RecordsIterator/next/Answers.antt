@@ -10,4 +10,4 @@ returns-clause-goes c =
     let at = c.in_ok-self.field-0 in
     let g : GivesRecord s (Some at) (Some c.in_ok-found.found) c.map-self.result = search rules in
     let n = nearer s at _ _ g in
-    record { on = λ f. rw c.in_ok-self.was (tt, n.0, n.1); keeps = tt; rests = λ f. tt }
+    record { on = λ f. rw c.in_ok-self.was (search (rules, n)); keeps = tt; rests = λ f. tt }
