@@ -66,6 +66,7 @@ EXCHANGED = part("parameters exchanged", "step_at(options: &[u8], offset: usize,
 STEP = part("a step elsewhere", "step_at(w.options, w.offset, w.at,", "step_at(w.options, w.at, w.at,")
 DIGITS = part("digits", "let next = put_decimal(out, at, n / 100);", "let next = put_decimal(out, at, n / 10);")
 LEVEL = part("the next header read from byte 7", "let next_header = s[6];", "let next_header = s[7];")
+TOLD = part("a refusal told as an index", "answer: c_answer::REFUSED,", "answer: c_answer::INDEXED,")
 # what is tried; what tools/edits must say; the files that are written (no text: removed)
 EDITS = [
     ("an edit of a proof", "wire/tried: proofs/has_flag/Proof.antt is no file of src/ or specs/",
@@ -113,6 +114,9 @@ EDITS = [
     ("a public function that shares the function that an edit changes", "checksum::sum: no edit changes its code",
      {**without("checksum", "add_piece"), **without("checksum", "PIECE"),
       "crates/checksum/must-fail/tried.edit": edit("file: src/lib.rt", "old: (t % 65536 + t / 65536) as u16", "new: (t % 65536 + t / 131072) as u16")}),
+    ("a public function whose answer a `from` makes that no edit changes", "c_split::brothladder_plan: no edit changes its code", without("c_split", "Planned::from")),
+    ("a public function that shares the `from` that an edit changes", "c_index::brothladder_index_append: no edit changes its code",
+     without("c_index", "brothladder_index_append")),
     ("a crate of which no edit leaves a promise open", "wire: no edit changes a promise alone", without("wire", "flag_of", "promise")),
 ]
 # the edit of wire that is tried, and what stands in its log; what tools/refusals must say, or None where the log is one to pass
@@ -167,6 +171,8 @@ LOGS = [
     ("another of several functions that call one another", ("quotes", LEVEL), own("+message_quote", "message-returns"), "quote is not refused by itself"),
     ("a fact of no one among functions that call one another", ("quotes", LEVEL), own("+message_quote"), "quote is not refused by itself"),
     ("a bound of one of several functions that call one another", ("quotes", LEVEL), own("+message_quote", "quote-bounds-numbers-3"), "shows nothing"),
+    ("a method of a trait, named by the type and the trait", ("c_index", TOLD), own("IndexedFromResultTuple2UsizeUsizeRefusal/from", "returns-in-Err"), None),
+    ("the same method of another type", ("c_index", TOLD), own("FoundFromOptionUsize/from", "returns-in-None"), "Indexed::from is not refused by itself"),
 ]
 
 
