@@ -39,10 +39,12 @@ CASES = [
     ("a crate that is not listed", "crates/dump/src/main.rt writes, and is not listed", {"crates/dump/src/main.rt": behind("\nfn f() { writer::write_packet_clearing(); }\n")}),
     ("a file of a crate whose other file is listed", "crates/replay/src/walk.rt writes, and is not listed", {"crates/replay/src/walk.rt": behind("\nfn f(h: Icmpv6Header) { h.to_bytes(); }\n")}),
     ("a head whose type is not seen", "crates/replay/src/walk.rt writes, and is not listed", {"crates/replay/src/walk.rt": behind("\nfn f() { g().to_bytes(); }\n")}),
+    ("a head that a closure is handed", "crates/replay/src/walk.rt writes, and is not listed", {"crates/replay/src/walk.rt": behind("\nfn f(h: Option<Icmpv6Header>) { h.map(|g| g.to_bytes()); }\n")}),
     ("a listed function that tries no other name", f"{SENDER}: is_told_apart is listed, and writes by no other name", {SENDER: instead("= write_packet(full,", "= write_packet_clearing(full,")}),
     ("a listed file that writes nothing", "docs/C.md is listed, and writes nothing", {"docs/C.md": lambda text: text.replace("brothladder_write", "brothladder_wrote")}),
     ("a comment", None, {EXAMPLE: behind("/* brothladder_write( */ // brothladder_write(\n"), "crates/dump/src/main.rt": behind("// writer::write_packet()\n")}),
     ("the bytes of another type", None, {"crates/replay/src/walk.rt": behind("\nfn f(h: NdpOptionHeader) { let g = h; g.to_bytes(); }\n")}),
+    ("the bytes of another type that a closure is handed", None, {"crates/replay/src/walk.rt": behind("\nfn f(s: &[u8]) { RedirectPayload::from_slice(s).map(|p| p.to_bytes()); }\n")}),
 ]
 
 failed = []
