@@ -118,8 +118,8 @@ fn own_index(options: &[u8], index: &[u32], entries: usize, edition: Edition) ->
                 return Err(Refusal::OtherIndex);
             }
             Step::Refused(why, _) => return Err(why),
-            // A cursor that a step hands on is within the bytes.
-            Step::Stopped => unreachable!(),
+            // Never: a cursor that a step hands on is within the bytes.
+            Step::Stopped => return Err(Refusal::OtherIndex),
         }
     }
 }
