@@ -92,9 +92,9 @@ fn length_at(options: &[u8], at: usize, edition: Edition) -> usize
     match (Cursor { at }).step(options, 0, edition) {
         Step::Handed(option, _) => option.len,
         Step::End => 0,
-        // The walk is clean, and its places are within the bytes.
-        Step::Refused(_, _) => unreachable!(),
-        Step::Stopped => unreachable!(),
+        // Never: the walk is clean, and its places are within the bytes.
+        Step::Refused(_, _) => 0,
+        Step::Stopped => 0,
     }
 }
 
