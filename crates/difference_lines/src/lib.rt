@@ -159,9 +159,11 @@ fn put_word(out: &mut [u8], at: usize, kind: u8) -> usize
     ensures short { result ≤ at + 10 }
 {
     let a = put_bytes(out, at, b" ");
-    // Never refused: there is room.
-    let b = dump_lines::put_kind(out, a, kind).unwrap_or(a);
-    put_bytes(out, b, b"\n")
+    match dump_lines::put_kind(out, a, kind) {
+        Ok(b) => put_bytes(out, b, b"\n"),
+        // Never: there is room.
+        Err(_) => at,
+    }
 }
 
 // Two places, and two numbers with a word each.
@@ -213,8 +215,11 @@ fn put_field(out: &mut [u8], at: usize, name: &[u8], n: u64) -> usize
     ensures short { result ≤ at + length name.now + 20 }
 {
     let a = put_bytes(out, at, name);
-    // Never refused: there is room.
-    dump_lines::put_number(out, a, n).unwrap_or(a)
+    match dump_lines::put_number(out, a, n) {
+        Ok(next) => next,
+        // Never: there is room.
+        Err(_) => at,
+    }
 }
 
 // Bytes that fit.
