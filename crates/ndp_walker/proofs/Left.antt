@@ -1,4 +1,5 @@
--- A step, and what is left of a walk: what a step hands out or refuses stands first, and the rest is what is left at the next place.
+-- A step, and what is left of a walk: what a step hands out or refuses stands first, and the rest is what is left at the next place. That place is not 0,
+-- so a walker goes on there.
 -- Assumes nothing.
 use Prim.Native.Nat.{ℕ, ◌+◌, ◌-◌, ◌≤◌, ◌<◌}
 use mathlib.Core.Path.{◌≡◌, refl, ◌∙◌, ap}
@@ -6,7 +7,7 @@ use mathlib.Core.List.{List, [], ◌∷◌}
 use native.Mathlib.Omega.{arith}
 use native.Mathlib.Decide.{dec_le}
 use lib.ListN.{length, get_or, drop}
-use borrow.Author.Tests.{lt-ltb, le-ltb}
+use borrow.Author.Tests.{lt-ltb, le-ltb, ne_eqb}
 use Rattle.paper.specs.Paper.{Paper, gives}
 use Rattle.refusal.specs.declared.Refusal.{Refusal}
 use Rattle.refusal.specs.Paper.{refusal}
@@ -23,7 +24,7 @@ use Rattle.ndp_options.specs.declared.NdpOption.{NdpOption}
 use Rattle.ndp_options.specs.declared.Cursor.{Cursor}
 use Rattle.ndp_options.specs.declared.Step.TheVariants.{Handed, End, Refused, Stopped}
 use Rattle.ndp_options.proofs.Steps.{handed-on, ended_at, refused-at, not_stopped, refuses-some}
-use Rattle.ndp_walker.specs.Left.{option_numbers, said, left_of}
+use Rattle.ndp_walker.specs.Left.{option_numbers, said, left_of, place_after}
 
 module _ (ed : Edition) (o : ℕ) (s : List ℕ) where
   -- beyond the bytes nothing is left
@@ -73,6 +74,18 @@ module _ (ed : Edition) (o : ℕ) (s : List ℕ) where
     left-stopped e = elim (dec_le at (length s)) [
       | no h ↦ left-beyond at (omega arith)
       | yes h ↦ absurd (not_stopped ed o s at h e refl)
+    ]
+
+    pub on-handed : (option : NdpOption) (next : Cursor) → step_told (Handed option next) ≡ step_of ed o s at → next.at ≡ place_after at (step_of ed o s at)
+    on-handed option next e = elim (dec_le at (length s)) [
+      | no h ↦ absurd (let z = ap (λ (t : Told). get_or t.paper.values 0 0) (past at (omega arith) e) in omega arith)
+      | yes h ↦ let on = handed-on ed o s at h e refl in rw (← e, ne_eqb next.at 0 (λ z. omega (arith, on.on)))
+    ]
+
+    pub on-refused : (why : Refusal) (next : Cursor) → step_told (Refused why next) ≡ step_of ed o s at → next.at ≡ place_after at (step_of ed o s at)
+    on-refused why next e = elim (dec_le at (length s)) [
+      | no h ↦ absurd (let z = ap (λ (t : Told). t.paper.number) (past at (omega arith) e) in let n = refuses-some why in omega arith)
+      | yes h ↦ let r = refused-at ed o s at h e refl in rw (← e, ne_eqb next.at 0 (λ z. omega (arith, r.0)))
     ]
 
 -- what is behind the first is shorter

@@ -1,13 +1,16 @@
--- What is left of a walk, as an iterator gives it: each option, and at last the refusal if there is one.
+-- What is left of a walk, as an iterator gives it: each option, and at last the refusal if there is one; and the walker that a call of `next` leaves.
 -- Assumes nothing.
-use Rattle.std.specs.Prelude.{ℕ, ◌+◌, ◌-◌, cond, List, [], ◌∷◌, ◌++◌, map, ltb, length, drop}
+use Rattle.std.specs.Prelude.{ℕ, ◌+◌, ◌-◌, cond, List, [], ◌∷◌, ◌++◌, map, eqb, ltb, length, drop}
 use Rattle.paper.specs.Paper.{Paper, gives}
 use Rattle.packet_place.specs.Place.{is_far, far, with_place}
 use Rattle.ndp_walk.specs.Walk.{Item, Ending, Clean, RefusedAt, Walk}
+use Rattle.ndp_walk.specs.Step.{Told}
+use Rattle.ndp_options.specs.Editions.{edition_of}
 use Rattle.ndp_options.specs.Told.{option_kind_number}
-use Rattle.ndp_options.specs.Walk.{walk_from}
+use Rattle.ndp_options.specs.Walk.{walk_from, step_of}
 use Rattle.ndp_options.specs.declared.Edition.{Edition}
 use Rattle.ndp_options.specs.declared.NdpOption.{NdpOption}
+use Rattle.ndp_walker.specs.declared.Walker.{Walker}
 
 -- an option in numbers: its kind and type, its places in the option bytes and in the packet, its length
 abbrev pub option_numbers : NdpOption → List ℕ
@@ -31,3 +34,17 @@ left_of e offset s at =
     cond (ltb (length s) at) []
     (cond (is_far offset (length s)) (far ∷ [])
     (said offset (walk_from e (offset + at) (drop at s))))
+
+-- the place that a step at a place hands on; where it hands on none, which is 0, the place itself
+abbrev pub place_after : ℕ → Told → ℕ
+place_after at t = cond (eqb t.place 0) at t.place
+
+-- the walker that a call of `next` leaves: at the place that the step hands on, and else as it was
+abbrev pub walker_after : Walker → Walker
+walker_after w =
+    record {
+      options = w.options;
+      offset = w.offset;
+      edition = w.edition;
+      at = place_after w.at (step_of (edition_of w.edition) w.offset w.options.now w.at);
+    }

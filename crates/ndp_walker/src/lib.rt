@@ -27,11 +27,11 @@ impl<'a> Iterator for Walker<'a> {
     ghost use Rattle.std.specs.Iterator.{YieldsFirstBy, item_count};
     ghost use Rattle.refusal.specs.Told.{told};
     ghost use Rattle.ndp_options.specs.Editions.{edition_of};
-    ghost use Rattle.ndp_walker.specs.Left.{option_numbers, left_of};
+    ghost use Rattle.ndp_walker.specs.Left.{option_numbers, left_of, walker_after};
 
     type Item = Result<NdpOption, Refusal>;
 
-    ghost next_gives = { YieldsFirstBy (told option_numbers) (λ w. left_of (edition_of w.edition) w.offset w.options.now w.at) };
+    ghost next_gives = { λ s r t. (t ≡ walker_after s) × YieldsFirstBy (told option_numbers) (λ w. left_of (edition_of w.edition) w.offset w.options.now w.at) s r t };
 
     ghost remaining = { item_count (λ w. left_of (edition_of w.edition) w.offset w.options.now w.at) };
 
