@@ -27,7 +27,7 @@ pub extern "C" fn brothladder_write(
     ensures lent { out.new ≡ output_by (edition_of edition) by_default (header_of_word type_u8 code_u8 bytes5to8) source.now destination.now payload.now out.old }
 {
     let header = c_written::header_of(type_u8, code_u8, bytes5to8);
-    write_packet(
+    let written = write_packet(
         header,
         Addresses {
             source: *source,
@@ -36,6 +36,6 @@ pub extern "C" fn brothladder_write(
         payload,
         out,
         Edition::of(edition),
-    )
-    .into()
+    );
+    c_written::told(written)
 }

@@ -27,7 +27,7 @@ pub extern "C" fn brothladder_write_keeping(
     ensures lent { out.new ≡ output_by (edition_of edition) Keeping (header_of_word type_u8 code_u8 bytes5to8) source.now destination.now payload.now out.old }
 {
     let header = c_written::header_of(type_u8, code_u8, bytes5to8);
-    write_packet_keeping(
+    let written = write_packet_keeping(
         header,
         Addresses {
             source: *source,
@@ -36,6 +36,6 @@ pub extern "C" fn brothladder_write_keeping(
         payload,
         out,
         Edition::of(edition),
-    )
-    .into()
+    );
+    c_written::told(written)
 }
