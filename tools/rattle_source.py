@@ -308,6 +308,11 @@ def public_functions(crate):
     return [i for i in functions(crate) if i.public]
 
 
+def iterators(crate):
+    """`next` of each type of a crate that is an iterator."""
+    return [i for s in sources(crate).values() for i in s.found if i.path.endswith("::next") and "Iterator" in s.traits.get(i.path.split("::")[-2], ())]
+
+
 def stray(crate):
     """Source, definitions and theorems in files that are no part of the crate."""
     parts = set(sources(crate)) | set(modules(crate, "specs").values()) | set(modules(crate, "proofs").values())
@@ -529,7 +534,9 @@ SHARED = {"Only": ("Rattle.paper.specs.Only", "Only"), "OnlyBy": ("Rattle.paper.
 
 def contract(f):
     """The module that has the contract of a function."""
-    return f"Rattle.{f.crate}.specs.contracts.{f.path.replace('::', '.')}"
+    # that of an iterator's `next` stands under the type's name and the trait's
+    path = f.path if f.public else f.path.replace("::next", "Iterator::next")
+    return f"Rattle.{f.crate}.specs.contracts.{path.replace('::', '.')}"
 
 
 @functools.cache
