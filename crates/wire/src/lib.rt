@@ -18,16 +18,19 @@ pub fn u32_from_be(a: u8, b: u8, c: u8, d: u8) -> u32
     u32::from_be_bytes([a, b, c, d])
 }
 
+// The bytes are taken apart here and in `u32_to_be`: passed on whole they lie in memory, and `brothladder_write` has some 60 bytes of code more.
 pub fn u16_to_be(x: u16) -> [u8; 2]
     ensures { result ≡ bytes16 x }
 {
-    u16::to_be_bytes(x)
+    let [high, low] = u16::to_be_bytes(x);
+    [high, low]
 }
 
 pub fn u32_to_be(x: u32) -> [u8; 4]
     ensures { result ≡ bytes32 x }
 {
-    u32::to_be_bytes(x)
+    let [a, b, c, d] = u32::to_be_bytes(x);
+    [a, b, c, d]
 }
 
 // Whether the flag of a weight, a power of two, is set in a byte. No for weight 0.
