@@ -110,12 +110,13 @@ fn information_in(slice: &[u8]) -> PrefixInformation
     }
 }
 
-// The last 16 bytes of 32.
+// The last 16 bytes of 32, each by its place: of a `copy_from_slice` the compiler makes a copy below the stack pointer, which a kernel may not have.
 fn prefix_in(slice: &[u8]) -> [u8; 16]
     requires { length slice.now ≡ 32 }
     ensures { result ≡ drop 16 slice.now }
 {
-    let mut prefix = [0; 16];
-    prefix.copy_from_slice(&slice[16..32]);
-    prefix
+    [
+        slice[16], slice[17], slice[18], slice[19], slice[20], slice[21], slice[22], slice[23],
+        slice[24], slice[25], slice[26], slice[27], slice[28], slice[29], slice[30], slice[31],
+    ]
 }
