@@ -75,19 +75,16 @@ impl From<Option<usize>> for Found {
 
     #[inline(always)]
     fn from(found: Option<usize>) -> Found {
-        match found {
-            Some(at) => Found {
-                answer: c_answer::FOUND,
-                refusal: 0,
-                value: [0; 5],
-                at,
-            },
-            None => Found {
-                answer: c_answer::NONE,
-                refusal: 0,
-                value: [0; 5],
-                at: 0,
-            },
+        // One struct for both: of one in each arm the compiler makes a copy below the stack pointer, which a kernel may not have.
+        let (answer, at) = match found {
+            Some(at) => (c_answer::FOUND, at),
+            None => (c_answer::NONE, 0),
+        };
+        Found {
+            answer,
+            refusal: 0,
+            value: [0; 5],
+            at,
         }
     }
 }
