@@ -52,10 +52,26 @@ fn information_in(slice: &[u8]) -> RouteInformation
     }
 }
 
-// Byte by byte: a route has none of them, 8 or 16, and a copy whose length varies would ask for a symbol from outside.
+// Byte by byte: a route has none of them, 8 or 16, and a copy whose length varies would ask for a symbol from outside. Each of the three is told at once:
+// with a test at every byte a route takes a quarter more instructions.
 fn prefix_in(slice: &[u8]) -> [u8; 16]
     ensures { result ≡ bytes_from 16 8 slice.now }
 {
+    if slice.len() <= 8 {
+        return [0; 16];
+    }
+    if slice.len() == 16 {
+        return [
+            slice[8], slice[9], slice[10], slice[11], slice[12], slice[13], slice[14], slice[15],
+            0, 0, 0, 0, 0, 0, 0, 0,
+        ];
+    }
+    if slice.len() >= 24 {
+        return [
+            slice[8], slice[9], slice[10], slice[11], slice[12], slice[13], slice[14], slice[15],
+            slice[16], slice[17], slice[18], slice[19], slice[20], slice[21], slice[22], slice[23],
+        ];
+    }
     [
         byte_at(slice, 8),
         byte_at(slice, 9),
