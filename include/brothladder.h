@@ -88,14 +88,14 @@
  * - It uses the registers xmm0 to xmm15, and no wider or older ones. These use none: sum_join,
  *   sum_pseudo.
  * - These use the red zone of the System V ABI, the 128 bytes below the stack pointer:
- *   index_first, index_next, read_prefix, read_route.
+ *   read_route.
  *   Where your kernel has no xmm registers or no red zone in use, link libbrothladder_kernel.a in
  *   place of libbrothladder.a: the same calls, compiled once more without both and without
  *   indirect jumps (docs/C.md). Or make the calls where both may be used: on Linux between
  *   kernel_fpu_begin and kernel_fpu_end, and with interrupts on a stack of their own.
  * - It calls nothing through a pointer. Indirect jumps, through tables in .rodata, are in chain,
- *   check_plan, decode, index_append, index_build, plan, plan_message, preference, read_message,
- *   receive, write, write_clearing, write_in_place, write_in_place_clearing, write_keeping.
+ *   check_plan, decode, index_append, index_build, plan, plan_message, read_message, receive,
+ *   write, write_clearing, write_in_place, write_in_place_clearing, write_keeping.
  *   There are no endbr64, no notrack and no retpolines: where a kernel enforces
  *   indirect branch tracking these jumps fault, and where it bars indirect jumps outside
  *   retpolines these calls are not for it. With tracking enforced, none is to be called through a

@@ -102,6 +102,9 @@ pub fn is_known(kind: u8, code: u8) -> bool
 }
 
 // The length of a type's fixed part, whatever the code; 0 if the table does not have the type.
+// A function of its own in compiled code: written into each caller, it takes a call that writes so many registers that a jump goes through memory, which
+// include/brothladder.h says there is none of.
+#[inline(never)]
 #[tactic(auto, unfolding(crate::specs::Table::fixed_len))]
 pub fn fixed_len(kind: u8) -> usize
     ensures { result ≡ fixed_len kind }
