@@ -53,7 +53,7 @@ fn information_in(slice: &[u8]) -> RouteInformation
 }
 
 // Byte by byte: a route has none of them, 8 or 16, and a copy whose length varies would ask for a symbol from outside. Each of the three is told at once:
-// with a test at every byte a route takes a quarter more instructions.
+// with a test at every byte a route takes three quarters more instructions.
 fn prefix_in(slice: &[u8]) -> [u8; 16]
     ensures { result ≡ bytes_from 16 8 slice.now }
 {
